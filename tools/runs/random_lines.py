@@ -109,9 +109,9 @@ class Lines:
 
     def operand(self, tables, kind):
         if self.chance(0.6):
-            homes = [(t, c) for t in tables for c, k in TABLES.get(t, []) if k == kind or self.chance(0.02)]
-            if homes:
-                table, column = self.pick(homes)
+            candidate_columns = [(t, c) for t in tables for c, k in TABLES.get(t, []) if k == kind or self.chance(0.02)]
+            if candidate_columns:
+                table, column = self.pick(candidate_columns)
                 return "%s.%s" % (table, column) if self.chance(0.6) or len(tables) > 1 else column
         return self.value(kind)
 

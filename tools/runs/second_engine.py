@@ -826,13 +826,13 @@ def finder(tables):
         qualifier = field(column, "table")
         wanted = qualifier.args[0] if qualifier.name == "Some" else None
         name = field(column, "column")
-        homes = [(place, at) for place, table in enumerate(tables) if wanted in (None, table[1])
+        candidate_columns = [(place, at) for place, table in enumerate(tables) if wanted in (None, table[1])
                  for at, other in enumerate(table[2]) if other[0] == name]
-        if not homes:
+        if not candidate_columns:
             raise Refused("31 UnknownColumn", name if wanted is None else wanted + "." + name)
-        if len(homes) > 1:
+        if len(candidate_columns) > 1:
             raise Refused("32 AmbiguousColumn", name)
-        return homes[0]
+        return candidate_columns[0]
     return find
 
 

@@ -3,7 +3,7 @@
 #![tactic(auto)]
 
 ghost use Rattle.hippo_serve_jobs.specs.Endings.{statuses};
-ghost use Rattle.hippo_program_start.specs.Statuses.{AnswersAmong, TellsFault};
+ghost use Rattle.hippo_program_start.specs.Statuses.{AnswersAmong, ReportsFault};
 ghost use Rattle.hippo_serve_args.specs.CommandLine.{call_of};
 
 use hippo_io::{Sink, Source};
@@ -13,14 +13,15 @@ use hippo_sqlite_files::FileKeeper;
 use hippo_values::Txt;
 use std::sync::ledger::Ledger;
 
-// The program over stores in files. Its exit status is that of `hippo_top`: 2 for words that ask
-// for nothing, and for no others; 3, 4 or 5 exactly when the keeper, the source or the sink failed.
+// The program over stores in files. Its exit status is that of `hippo_top`: 2 only for words that
+// ask for nothing; 3, 4 or 5 exactly when the keeper, the source or the sink failed. `Answers` does
+// not speak of 3.
 struct Hippo;
 
 impl Program for Hippo {
     ghost Answers = { λ words status before after. AnswersAmong statuses (call_of words) status
-        × TellsFault 4 status before.reads after.reads
-        × TellsFault 5 status before.writes after.writes };
+        × ReportsFault 4 status before.reads after.reads
+        × ReportsFault 5 status before.writes after.writes };
 
     fn call<S: Source, K: Sink, L: Ledger>(words: &[Txt], host: &mut Host<S, K, L>) -> u8 {
         let alloc = host.runtime.alloc();

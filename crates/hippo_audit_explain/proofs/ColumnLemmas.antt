@@ -16,7 +16,7 @@ use Rattle.hippo_model.specs.Columns.{columns_in, condition_columns, named_colum
 use Rattle.hippo_model.specs.Terms.{Place}
 use Rattle.hippo_model.proofs.NamedColumns.{condition_columns-All, condition_columns-Any, condition_columns-Not, condition_columns-Compare, condition_columns-Between, condition_columns-Among, condition_columns-Missing}
 use Rattle.hippo_typing.proofs.LastingNames.{any-append}
-use Rattle.hippo_audit_explain.specs.Listing.{is_it}
+use Rattle.hippo_audit_explain.specs.Listing.{refers_to}
 
 any_in_each : {A B : Type 0} (test : B → Bool) (parts : A → List B) (members : List A) → list_any test (flat_map parts members) ≡ list_any (λ member. list_any test (parts member)) members
 any_in_each test parts [] = refl
@@ -65,10 +65,10 @@ module _ (test : Ref → Bool) where
 pub ruleset any_column = (any-All, any-Any, any-Not, any-Compare, any-Between, any-Among, any-Missing)
 
 -- a query names a column in its select list or in its condition
-pub named_any : (query : Query) (column : Name × Place) → list_any (same_column column) (query_columns query) ≡ (list_any (is_it query.tables column) query.items || list_any (is_it query.tables column) (condition_columns query.cond))
+pub named_any : (query : Query) (column : Name × Place) → list_any (same_column column) (query_columns query) ≡ (list_any (refers_to query.tables column) query.items || list_any (refers_to query.tables column) (condition_columns query.cond))
 named_any query column =
     any_mapped (same_column column) (named_column query.tables) (query.items ++ condition_columns query.cond)
-    ∙ any-append (is_it query.tables column) query.items (condition_columns query.cond)
+    ∙ any-append (refers_to query.tables column) query.items (condition_columns query.cond)
 
 first_or : (a first second whole : Bool) → a ≡ first → a ≡ true → whole ≡ (first || second) → a ≡ whole
 first_or a true second whole is holds same = is ∙ sym same
@@ -78,11 +78,11 @@ second_or : (a b first second whole : Bool) → a ≡ first → a ≡ false → 
 second_or a b true second whole is fails other same = absurd (false≢true (sym fails ∙ is))
 second_or a b false second whole is fails other same = other ∙ sym same
 
-module _ (query : Query) (column : Name × Place) (among : Bool) (is : among ≡ list_any (is_it query.tables column) query.items) where
+module _ (query : Query) (column : Name × Place) (among : Bool) (is : among ≡ list_any (refers_to query.tables column) query.items) where
   -- the column is in the select list
   pub named_items : among ≡ true → among ≡ list_any (same_column column) (query_columns query)
   named_items holds = first_or among _ _ _ is holds (named_any query column)
 
   -- or in the condition
-  pub named_condition : (spoken : Bool) → among ≡ false → spoken ≡ list_any (is_it query.tables column) (condition_columns query.cond) → spoken ≡ list_any (same_column column) (query_columns query)
+  pub named_condition : (spoken : Bool) → among ≡ false → spoken ≡ list_any (refers_to query.tables column) (condition_columns query.cond) → spoken ≡ list_any (same_column column) (query_columns query)
   named_condition spoken fails other = second_or among spoken _ _ _ is fails other (named_any query column)

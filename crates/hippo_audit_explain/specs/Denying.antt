@@ -17,7 +17,7 @@ use Rattle.hippo_keeper.specs.declared.faults.KeeperFault.{KeeperFault}
 use Rattle.hippo_keeper.specs.Keeping.{KeeperState, IsReady, IsAfterCall, KeepsSame}
 use Rattle.hippo_typing_catalog.specs.Catalogs.{KnownNames, known_at, table_of}
 use Rattle.hippo_policy.specs.declared.book.PolicyBook.{PolicyBook}
-use Rattle.hippo_policy.specs.Books.{BookStandsFor}
+use Rattle.hippo_policy.specs.Books.{BookRepresents}
 use Rattle.hippo_typing.specs.Meanings.{meaning}
 use Rattle.hippo_backlog.specs.Backlogs.{versions_of}
 use Rattle.hippo_backlog.specs.Calls as reads
@@ -37,7 +37,7 @@ listing_as_call (Err (Read fault)) = reads.reading_as_call {A = Unit {0}} (Err f
 -- of the whole history
 pub record FitsTable (schema : Schema) (count : ℕ) (book : PolicyBook) (history : History)
     : Type 0 where
-  pub rules : BookStandsFor book history
+  pub rules : BookRepresents book history
   pub created : schema_at (take count history) schema.name ≡ Some schema
   pub within : count ≤ length history
 
@@ -45,7 +45,7 @@ pub record FitsTable (schema : Schema) (count : ℕ) (book : PolicyBook) (histor
 pub record FitsQuery (tables : List Name) (names : KnownNames) (count : ℕ) (book : PolicyBook)
     (history : History)
     : Type 0 where
-  pub rules : BookStandsFor book history
+  pub rules : BookRepresents book history
   pub known : names ≡ known_at history
   pub created : list_all (λ table. is_some (table_of (known_at (take count history)) table)) tables
       ≡ true
@@ -54,7 +54,7 @@ pub record FitsQuery (tables : List Name) (names : KnownNames) (count : ℕ) (bo
 -- the text means a query after the first `count` entries
 pub record FitsText (text : Txt) (names : KnownNames) (count : ℕ) (book : PolicyBook)
     (history : History) : Type 0 where
-  pub rules : BookStandsFor book history
+  pub rules : BookRepresents book history
   pub known : names ≡ known_at history
   pub means : is_some (meaning (take count history) text) ≡ true
   pub within : count ≤ length history
@@ -143,5 +143,5 @@ pub record Denies (limit : ℕ) (entry : Entry) (names : KnownNames) (book : Pol
   pub stays : after.tells → KeepsSame before after
   pub told : after.tells → (history : History) → IsStoreOf meaning before.kept history
       → names ≡ known_at history
-      → BookStandsFor book history → StandsIn meaning history entry
+      → BookRepresents book history → StandsIn meaning history entry
       → HasAnswered limit history entry result steps steps'

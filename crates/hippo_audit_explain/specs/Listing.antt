@@ -11,7 +11,7 @@ use Rattle.hippo_model.specs.Columns.{named_column, same_column}
 use Rattle.hippo_model.specs.Denials.{Denial, is_listed, denial_by}
 use Rattle.hippo_model.specs.Terms.{History, Place}
 use Rattle.hippo_model.specs.Verdicts.{Context, verdict}
-use Rattle.hippo_policy.specs.Books.{BookStandsFor}
+use Rattle.hippo_policy.specs.Books.{BookRepresents}
 use Rattle.hippo_backlog.specs.declared.faults.ReadFault.TheVariants.{Memory}
 use Rattle.hippo_audit_explain.specs.declared.faults.DenialsFault.{DenialsFault}
 use Rattle.hippo_audit_explain.specs.declared.faults.DenialsFault.TheVariants.{Read, TooMany}
@@ -20,8 +20,8 @@ use Rattle.hippo_audit_explain.specs.declared.faults.ListFault.TheVariants as li
 use Rattle.hippo_audit_explain.specs.declared.rows.RulesThen.{RulesThen}
 
 -- whether a reference in a statement is to this column
-abbrev pub is_it : List Name → Name × Place → Ref → Bool
-is_it tables column reference = same_column column (named_column tables reference)
+abbrev pub refers_to : List Name → Name × Place → Ref → Bool
+refers_to tables column reference = same_column column (named_column tables reference)
 
 -- the columns of a table that EXPLAIN lists for a query, with their places
 abbrev pub denial_columns : Query → Schema → List (Place × Column)
@@ -62,7 +62,7 @@ Lists limit wanted (Err lists.Memory) old new = Unit {0}
 abbrev pub ListsRows : ℕ → RulesThen → Schema → List (Place × Column) → List BornRow
     → Result (Unit {0}) ListFault → List Denial → List Denial → Type 0
 ListsRows limit rules schema listed rows result old new =
-    (history : History) → BookStandsFor rules.book.now history
+    (history : History) → BookRepresents rules.book.now history
     → Lists limit
     (rows_denials (take rules.count history) (rules_context rules) schema listed rows)
     result old new

@@ -3,7 +3,7 @@ ghost use Rattle.std.specs.Prelude.{◌≡◌, [], slice_index_or, IfOk};
 ghost use Rattle.std.specs.List.{list_any};
 ghost use Rattle.hippo_model.specs.Columns.{columns_in, condition_columns, query_columns, same_column};
 ghost use Rattle.hippo_model.specs.Denials.{is_listed};
-ghost use Rattle.hippo_audit_explain.specs.Listing.{is_it, denial_columns};
+ghost use Rattle.hippo_audit_explain.specs.Listing.{refers_to, denial_columns};
 
 use hippo_model::{Column, CondOf, Names, Operand, Operands, Query, Ref, Schema};
 use hippo_values::{Memory, Name, Sequence};
@@ -37,33 +37,33 @@ fn table_name(tables: &Names, place: usize) -> &str
 }
 
 // Whether a reference is to this column of the table with this name.
-fn is_it(tables: &Names, table: &Name, place: usize, column: &Ref) -> bool
-    ensures { result ≡ is_it tables.now (table.now, place) column.now }
+fn refers_to(tables: &Names, table: &Name, place: usize, column: &Ref) -> bool
+    ensures { result ≡ refers_to tables.now (table.now, place) column.now }
 {
     table.as_str() == table_name(tables, column.table) && place == column.column
 }
 
 fn is_among(tables: &Names, table: &Name, place: usize, columns: &[Ref]) -> bool
-    ensures { result ≡ list_any (is_it tables.now (table.now, place)) columns.now }
+    ensures { result ≡ list_any (refers_to tables.now (table.now, place)) columns.now }
 {
     columns
         .iter()
-        .any(|column| is_it(tables, table, place, column))
+        .any(|column| refers_to(tables, table, place, column))
 }
 
 #[tactic(auto, using(crate::proofs::ColumnLemmas::any_one))]
 fn is_in(tables: &Names, table: &Name, place: usize, operand: &Operand) -> bool
-    ensures { result ≡ list_any (is_it tables.now (table.now, place)) (columns_in operand.now) }
+    ensures { result ≡ list_any (refers_to tables.now (table.now, place)) (columns_in operand.now) }
 {
     match operand {
-        Operand::Column(column) => is_it(tables, table, place, column),
+        Operand::Column(column) => refers_to(tables, table, place, column),
         Operand::Literal(_) => false,
     }
 }
 
 fn is_in_list(tables: &Names, table: &Name, place: usize, list: &Operands) -> bool
     ensures { result
-        ≡ list_any (λ operand. list_any (is_it tables.now (table.now, place)) (columns_in operand))
+        ≡ list_any (λ operand. list_any (refers_to tables.now (table.now, place)) (columns_in operand))
         list.now }
 {
     list.as_slice()
@@ -75,7 +75,7 @@ fn is_in_list(tables: &Names, table: &Name, place: usize, list: &Operands) -> bo
 #[cycle(speaks_of)]
 #[tactic(auto, using(crate::proofs::ColumnLemmas::any_column))]
 fn speaks_of(tables: &Names, table: &Name, place: usize, condition: &CondOf<Operand>) -> bool
-    ensures { result ≡ list_any (is_it tables.now (table.now, place))
+    ensures { result ≡ list_any (refers_to tables.now (table.now, place))
         (condition_columns condition.now) }
 {
     match condition {
@@ -105,7 +105,7 @@ fn one_speaks_of(
     parts: &Sequence<CondOf<Operand>>,
 ) -> bool
     ensures { result
-        ≡ list_any (λ part. list_any (is_it tables.now (table.now, place)) (condition_columns part))
+        ≡ list_any (λ part. list_any (refers_to tables.now (table.now, place)) (condition_columns part))
         parts.now }
 {
     for part in parts.as_slice() {

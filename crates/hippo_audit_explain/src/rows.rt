@@ -3,7 +3,7 @@ ghost use Rattle.std.specs.Prelude.{◌≡◌, ◌≤◌, ◌++◌, length, take
 ghost use Rattle.hippo_model.specs.Terms.{History};
 ghost use Rattle.hippo_model.specs.Denials.{denial_by};
 ghost use Rattle.hippo_model.specs.Verdicts.{verdict};
-ghost use Rattle.hippo_policy.specs.Books.{BookStandsFor};
+ghost use Rattle.hippo_policy.specs.Books.{BookRepresents};
 ghost use Rattle.hippo_audit_explain.specs.Listing.{rules_context, denial_columns, listed_denials, ListsRows};
 
 use crate::columns::{Listed, listed_columns};
@@ -77,7 +77,7 @@ fn denied_by<'a>(
 
 impl RulesThen<'_> {
     fn verdict(&self, schema: &Schema, kept: &BornRow, column: usize) -> Verdict
-        ensures { (history : History) → BookStandsFor self.now.book.now history
+        ensures { (history : History) → BookRepresents self.now.book.now history
             → result ≡ verdict (take self.now.count history) (rules_context self.now) schema.now
             kept.now column }
     {
@@ -102,7 +102,7 @@ impl RulesThen<'_> {
         kept: &BornRow,
         cells: &mut Sequence<Denied<'a>>,
     ) -> Result<(), Memory>
-        ensures { OnOk result ((history : History) → BookStandsFor self.now.book.now history
+        ensures { OnOk result ((history : History) → BookRepresents self.now.book.now history
             → cells.new ≡ cells.old ++ listed_denials (take self.now.count history)
             (rules_context self.now) schema.now listed.now kept.now) }
     {

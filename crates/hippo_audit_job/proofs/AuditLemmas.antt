@@ -20,7 +20,7 @@ use Rattle.hippo_typing_catalog.specs.AuditExpressions.{audit_refused, audit_of}
 use Rattle.hippo_typing_catalog.specs.Catalogs.{KnownNames, known_at, table_of, schemas_of}
 use Rattle.hippo_typing_catalog.specs.Refusals.{fault_if, unknown_table}
 use Rattle.hippo_typing_catalog.proofs.DifferLemmas.{none_of_both, names_differ, distinct_so}
-use Rattle.hippo_typing_catalog.specs.WrittenColumns.{place_of, may_stand_in, home_in, homes, homes_refused, column_refused, column_of}
+use Rattle.hippo_typing_catalog.specs.WrittenColumns.{place_of, may_belong_to, home_in, candidate_columns, homes_refused, column_refused, column_of}
 use Rattle.hippo_typing.specs.ResolutionLaws.{NamesAreThoseOf}
 use Rattle.hippo_typing.specs.Meanings.{meaning}
 use Rattle.hippo_typing.proofs.CatalogTheorem.{valid_names}
@@ -63,7 +63,7 @@ homes_there : (written : RawColumn) (place : ℕ) (schemas : List Schema) → Al
 homes_there written place [] = tt
 homes_there written place (schema ∷ rest) =
     let later = all_further place schema rest _ (homes_there written (place + 1) rest) in
-    with_home (may_stand_in written.table schema.name) (place_of schema written.column) refl _ later
+    with_home (may_belong_to written.table schema.name) (place_of schema written.column) refl _ later
   where
     with_home : (may : Bool) (found : Option Place) → place_of schema written.column ≡ found → (columns : List Ref) → AllByRecursion (StandsAfter place (schema ∷ rest)) columns
         → AllByRecursion (StandsAfter place (schema ∷ rest)) (cons_option (cond may (option_map (λ column. record { table = place; column = column }) found) None) columns)
@@ -73,9 +73,9 @@ homes_there written place (schema ∷ rest) =
 
 -- a column that the statement names is found there
 found_there : (schemas : List Schema) (written : RawColumn) → column_refused schemas written ≡ [] → StandsAfter 0 schemas (column_of schemas written)
-found_there schemas written none = by (homes schemas written) (homes_there written 0 schemas) refl
+found_there schemas written none = by (candidate_columns schemas written) (homes_there written 0 schemas) refl
   where
-    by : (found : List Ref) → AllByRecursion (StandsAfter 0 schemas) (homes schemas written) → homes schemas written ≡ found → StandsAfter 0 schemas (column_of schemas written)
+    by : (found : List Ref) → AllByRecursion (StandsAfter 0 schemas) (candidate_columns schemas written) → candidate_columns schemas written ≡ found → StandsAfter 0 schemas (column_of schemas written)
     by [] all is =
         let none_there = sym (ap (homes_refused written) is) ∙ none in
         absurd cc

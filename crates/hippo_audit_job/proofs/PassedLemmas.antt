@@ -40,15 +40,15 @@ last_within (one ∷ rest) low high reached read within = within
 
 -- if not all is read, nothing waits
 pub none_waiting : (number : ℕ) (ahead : ReadAhead) → has_read number ahead ≡ false → ahead.waiting ≡ []
-none_waiting number ahead read = none_held ahead.waiting read
+none_waiting number ahead read = empty_slots ahead.waiting read
   where
     some_read : (within : Bool) → (within || true) ≡ false → ⊥
     some_read true e = absurd cc
     some_read false e = absurd cc
 
-    none_held : (held : Store) → (nat_le number ahead.reached || is_some (slice_get held 0)) ≡ false → held ≡ []
-    none_held [] e = refl
-    none_held (one ∷ rest) e = absurd (some_read (nat_le number ahead.reached) e)
+    empty_slots : (held : Store) → (nat_le number ahead.reached || is_some (slice_get held 0)) ≡ false → held ≡ []
+    empty_slots [] e = refl
+    empty_slots (one ∷ rest) e = absurd (some_read (nat_le number ahead.reached) e)
 
 -- and less than the number is read
 pub less_read : (number : ℕ) (ahead : ReadAhead) → has_read number ahead ≡ false → ahead.reached < number

@@ -9,7 +9,7 @@ use Rattle.hippo_model.specs.HandedOver.{is_question}
 use Rattle.hippo_model.specs.StoredForms.{act_kind, stored}
 use Rattle.hippo_keeper.specs.declared.faults.KeeperFault.{KeeperFault}
 use Rattle.hippo_keeper.specs.Keeping.{Store, KeeperState}
-use Rattle.hippo_keeper.specs.Selecting.{was_asked_in, handed_over, ReadsEntries}
+use Rattle.hippo_keeper.specs.Selecting.{was_asked_in, selected_entries, ReadsEntries}
 use Rattle.hippo_typing.specs.Meanings.{meaning}
 use Rattle.hippo_backlog.specs.declared.faults.ReadFault.{ReadFault}
 use Rattle.hippo_backlog.specs.Calls.{read_fault, reading_as_call}
@@ -62,7 +62,7 @@ module _ (audit : Audit) (max end : ℕ) (old : ReadAhead) (before after : Keepe
         onward = reached_by-further max end piece old.reached some reads.ok.order;
         undamaged = λ number e. absurd cc;
         told = λ tells history store within place split.
-            let handed = reads.ok.told tells ∙ ap (λ (s : Store). handed_over (was_asked_in audit.from audit.to) old.reached max s) (sym store.forms) in
+            let handed = reads.ok.told tells ∙ ap (λ (s : Store). selected_entries (was_asked_in audit.from audit.to) old.reached max s) (sym store.forms) in
             (IsAhead-read (is_question_in_period audit) place old history split (was_asked_in audit.from audit.to) (same_test audit) meaning store.valid max end piece used handed within).0;
       })
 

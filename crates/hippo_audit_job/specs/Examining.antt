@@ -19,7 +19,7 @@ use Rattle.hippo_model.specs.Audits.{first_serving}
 use Rattle.hippo_model_laws.specs.Audits.{StandsIn}
 use Rattle.hippo_keeper.specs.Keeping.{KeeperState, IsReady, IsAfterCall, KeepsSame}
 use Rattle.hippo_typing_catalog.specs.Catalogs.{known_at}
-use Rattle.hippo_policy.specs.Books.{BookStandsFor}
+use Rattle.hippo_policy.specs.Books.{BookRepresents}
 use Rattle.hippo_typing.specs.Meanings.{meaning}
 use Rattle.hippo_backlog.specs.declared.faults.ReadFault.{ReadFault}
 use Rattle.hippo_backlog.specs.declared.faults.ReadFault.TheVariants.{Damaged}
@@ -30,7 +30,7 @@ use Rattle.hippo_audit_job.specs.declared.past.Past.{Past}
 pub record IsPastOf (past : Past) (history : History) : Type 0 where
   pub valid : is_valid meaning history ≡ true
   pub names : past.catalog.now.names ≡ known_at history
-  pub book : BookStandsFor past.book.now history
+  pub book : BookRepresents past.book.now history
   pub count : past.count ≡ length history
 
 -- the column belongs to one of these tables, and that table is created

@@ -16,7 +16,7 @@ use Rattle.hippo_tables_keyed.specs.RowSets.{KeyedRows}
 use Rattle.hippo_rewrite.specs.Rewriting.{rewritten_query}
 use Rattle.hippo_audit_search.specs.Sharing.{first_shared}
 use Rattle.hippo_audit_search.specs.Needs.{first_needed}
-use Rattle.hippo_audit_needs.specs.Seen.{to_be_seen}
+use Rattle.hippo_audit_needs.specs.Seen.{required_shown}
 use Rattle.hippo_audit_needs.specs.SharedLaws.{NeededServesFirst}
 use Rattle.hippo_audit_needs.specs.Examining.{ServesFirst}
 use Rattle.hippo_audit_needs.proofs.PlainTheorem.{first-plain}
@@ -29,12 +29,12 @@ shared-needed choices query audit seen query_sets audit_sets result =
     (λ shared is. is ∙ sym (first-plain choices query audit seen query_sets audit_sets))
 
 module _ (needed_first : NeededServesFirst) (query : Query) (audit : Audit) (rules : List TableRules) (query_sets audit_sets : List KeyedRows) (choices : Choices) where
-  pub needed-serves-first : (masked : Masked) (seen : List Expr) (result : Result (Option (List SharedRow)) Memory) → masked ≡ rewritten_query rules query → seen ≡ to_be_seen rules query audit
+  pub needed-serves-first : (masked : Masked) (seen : List Expr) (result : Result (Option (List SharedRow)) Memory) → masked ≡ rewritten_query rules query → seen ≡ required_shown rules query audit
       → IfOk result (λ shared. shared ≡ first_needed choices masked query.form audit seen query_sets audit_sets) → IfOk result (λ shared. ServesFirst query audit rules query_sets audit_sets choices shared)
   needed-serves-first masked seen result masked_is seen_is =
       IfOk-weaker result (λ shared. shared ≡ first_needed choices masked query.form audit seen query_sets audit_sets) (λ shared. ServesFirst query audit rules query_sets audit_sets choices shared)
       (λ shared is. λ meaning history context those.
       let same_query = masked_is ∙ ap (λ (rules : List TableRules). rewritten_query rules query) those.rules_are in
-      let same_seen = seen_is ∙ ap (λ (rules : List TableRules). to_be_seen rules query audit) those.rules_are in
+      let same_seen = seen_is ∙ ap (λ (rules : List TableRules). required_shown rules query audit) those.rules_are in
       is ∙ (λ i. first_needed (those.choices_are i) (same_query i) query.form audit (same_seen i) (those.query_rows i) (those.audit_rows i))
       ∙ needed_first meaning history context query those.schemas audit those.tables those.columns)

@@ -28,7 +28,7 @@ use Rattle.hippo_audit_needs.specs.declared.group_marks.GroupMarks.{GroupMarks}
 use Rattle.hippo_audit_needs.specs.GroupMarks.{PlacedRow, placed_rows, shown_value, member_places, best_by, best_of, marks_of, is_best_changed, changes_without}
 use Rattle.hippo_groups.specs.KeptGroups.{members_of, keys_of}
 use Rattle.hippo_groups.proofs.BestTheorem.{IsBest, least_is_best, greatest_is_best, some-have-it, changes}
-use Rattle.hippo_distinct.proofs.KeptLemmas.{any-different_rows}
+use Rattle.hippo_distinct.proofs.KeptLemmas.{any-distinct_rows}
 use Rattle.hippo_groups.proofs.GroupLemmas.{kept_at}
 
 -- equal places are the same
@@ -193,7 +193,7 @@ module _ (places : List Place) where
         ≡ not (same_bag (grouped_rows shape (map row_in (filter is_left found))) (grouped_rows shape (map row_in found)))
     groups-change =
         any-map (changes_without places) marks_at (keys_of row_in shape.keys found)
-        ∙ any-different_rows (λ key. changes_without places (marks_at key)) (map key_of found)
+        ∙ any-distinct_rows (λ key. changes_without places (marks_at key)) (map key_of found)
         ∙ each-group [] found refl
         ∙ sym (
         (λ i. not (same_bag (grouped_rows shape (map row_in (sym (filter-all (filter is_left found)) i))) (grouped_rows shape (map row_in (sym (filter-all found) i)))))

@@ -28,7 +28,7 @@ use Rattle.hippo_audit_common.specs.Commons.{common_tables}
 use Rattle.hippo_audit_search.specs.Sharing.{virtual_tuples_in, has_tuple_in, query_has, audit_has, first_shared}
 use Rattle.hippo_audit_search.specs.Needs.{needs_by, first_needed}
 use Rattle.hippo_audit_search.specs.HistoryLaws.{sets_at}
-use Rattle.hippo_audit_needs.specs.Seen.{to_be_seen}
+use Rattle.hippo_audit_needs.specs.Seen.{required_shown}
 use Rattle.hippo_audit_needs.specs.SharedLaws.{QueryNeedsOverRows, QueryNeedsWhatItHas, NeededServesFirst, SharedServesFirst}
 
 -- if none of the removed elements counts, the same ones count after removing them
@@ -118,7 +118,7 @@ query-needs over_rows = λ meaning history context query schemas tuple has is_pl
 pub shared-serves : NeededServesFirst → SharedServesFirst
 shared-serves needed = λ meaning history context query schemas audit has is_plain columns.
     let rules = rules_at history context schemas in
-    let seen = to_be_seen rules query audit in
+    let seen = required_shown rules query audit in
     sym (first-plain (choice_at history) (rewritten_query rules query) audit seen (sets_at history query.tables) (sets_at history audit.tables))
     ∙ sym (ap (λ (form : Form). first_needed (choice_at history) (rewritten_query rules query) form audit seen (sets_at history query.tables) (sets_at history audit.tables)) is_plain)
     ∙ needed meaning history context query schemas audit has columns

@@ -34,7 +34,7 @@ use Rattle.hippo_audit_search.specs.Needs.{needs_by}
 use Rattle.hippo_audit_search.specs.HistoryLaws.{sets_at, TuplesAreThoseOfHistory, AuditNeedsWhatItHas}
 use Rattle.hippo_audit_search.proofs.CommonLemmas.{same_as_itself, common-in-query, common-in-audit}
 use Rattle.hippo_audit_search.proofs.SideLemmas.{one-of-product, any-of-product}
-use Rattle.hippo_audit_needs.specs.Seen.{column_in_query, to_be_seen, IsCommon}
+use Rattle.hippo_audit_needs.specs.Seen.{column_in_query, required_shown, IsCommon}
 use Rattle.hippo_audit_needs.specs.SharedLaws.{QueryNeedsOverRows, NeededServesFirst}
 use Rattle.hippo_audit_needs.proofs.PlainTheorem.{needed-had}
 use Rattle.hippo_audit_needs.proofs.SeenTheorem.{stands-at, in-common, product-has, seen-column}
@@ -178,7 +178,7 @@ needed-serves of_query of_audit of_tuples shows = λ meaning history context que
     let exprs : List Expr = map (masked_column rules) (map (column_in_query query.tables audit.tables) audit.columns) in
     let needed : List SharedRow → Bool = needs_by (choice_at history) (rewritten_query rules query) query.form sets in
     let had : List Expr → List SharedRow → Bool = λ seen. query_has (choice_at history) (rewritten_query rules query) seen sets in
-    let here : List SharedRow → Bool = λ tuple. needed tuple && had (to_be_seen rules query audit) tuple && audit_has audit (sets_at history audit.tables) tuple in
+    let here : List SharedRow → Bool = λ tuple. needed tuple && had (required_shown rules query audit) tuple && audit_has audit (sets_at history audit.tables) tuple in
     ap (find here) (of_tuples history query audit)
     ∙ find_same here (serves history context query audit) (tuples_at history (common query audit))
     (all_from (λ tuple. AllByRecursion (StandsRow history query audit) tuple × HasColumns history query audit audit.columns tuple) (λ tuple. here tuple ≡ serves history context query audit tuple)
@@ -190,7 +190,7 @@ needed-serves of_query of_audit of_tuples shows = λ meaning history context que
     any_and sets (has_tuple_in query.tables sets tuple) (λ rows. is_guarded (choice_at history) (rewritten_query rules query) rows && masked_passes (choice_at history) (rewritten_query rules query) rows)
     (are_shown (choice_at history) exprs) all_seen
     (λ places within tupled. seen_columns history query audit shows context schemas has.schemas_are tuple places within tupled audit.columns columns known.1) in
-    (λ i. sym asks i && had (to_be_seen rules query audit) tuple && sym audits i)
+    (λ i. sym asks i && had (required_shown rules query audit) tuple && sym audits i)
     ∙ by_need (query_needs history context query tuple) (audit_needs history audit tuple) all_seen (λ seen. had seen tuple) exprs
     (λ needs. needed-had (choice_at history) (rewritten_query rules query) sets tuple query.form (sym asks ∙ needs)) with_seen audit.shown)
     (tuples_at history (common query audit))

@@ -23,8 +23,8 @@ column_in_query query audit column = record {
 
 -- the expressions that must be shown to a query: if the audit asks for cells that were shown, the
 -- masked column of each audited column
-abbrev pub to_be_seen : List TableRules → Query → Audit → List Expr
-to_be_seen rules query audit =
+abbrev pub required_shown : List TableRules → Query → Audit → List Expr
+required_shown rules query audit =
     if audit.shown then map (masked_column rules)
     (map (column_in_query query.tables audit.tables) audit.columns) else []
 

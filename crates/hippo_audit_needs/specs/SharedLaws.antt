@@ -15,7 +15,7 @@ use Rattle.hippo_rewrite.specs.RewritingLaws.{rules_at, HasTables}
 use Rattle.hippo_audit_search.specs.Sharing.{query_has, first_shared}
 use Rattle.hippo_audit_search.specs.Needs.{needs_by, first_needed}
 use Rattle.hippo_audit_search.specs.HistoryLaws.{sets_at}
-use Rattle.hippo_audit_needs.specs.Seen.{to_be_seen, AreCommonColumns}
+use Rattle.hippo_audit_needs.specs.Seen.{required_shown, AreCommonColumns}
 
 -- a query of any form needs a tuple of rows of its tables exactly when its query rewritten by the
 -- rules in force does, judged by removing combinations
@@ -51,7 +51,7 @@ NeededServesFirst =
     (audit : Audit) → HasTables meaning history query schemas → AreCommonColumns history query audit
     → let rules = rules_at history context schemas in
     first_needed (choice_at history) (rewritten_query rules query) query.form audit
-    (to_be_seen rules query audit)
+    (required_shown rules query audit)
     (sets_at history query.tables) (sets_at history audit.tables)
     ≡ first_serving history context query audit
 
@@ -65,6 +65,6 @@ SharedServesFirst =
     → AreCommonColumns history query audit
     → let rules = rules_at history context schemas in
     first_shared (choice_at history) (rewritten_query rules query) audit
-    (to_be_seen rules query audit)
+    (required_shown rules query audit)
     (sets_at history query.tables) (sets_at history audit.tables)
     ≡ first_serving history context query audit

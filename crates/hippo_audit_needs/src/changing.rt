@@ -22,7 +22,7 @@ use std::alloc::Global;
 ///
 /// The memory is proportional to the number of groups. The time is that of `walk_joined` over the
 /// query's rows, unless no combination of the audit's rows counts.
-pub(crate) fn first_changing<C: ChoiceView>(
+pub(crate) fn first_needed_by_groups<C: ChoiceView>(
     alloc: Global,
     shape: &Shape,
     compared: &Compared<'_, C>,

@@ -8,4 +8,4 @@ pub mod laws;
 mod marking;
 mod sharing;
 
-pub use sharing::{shared_of, to_be_seen};
+pub use sharing::{required_shown, shared_of};

@@ -2,11 +2,11 @@
 ghost use Rattle.std.specs.Prelude.{◌≡◌, IfOk, map};
 ghost use Rattle.hippo_audit_search.specs.Audited.{HasRowsFor};
 ghost use Rattle.hippo_audit_search.specs.Comparing.{HaveRows, needed_between};
-ghost use Rattle.hippo_audit_needs.specs.Seen.{column_in_query, to_be_seen};
+ghost use Rattle.hippo_audit_needs.specs.Seen.{column_in_query, required_shown};
 ghost use Rattle.hippo_audit_needs.specs.Examining.{ServesFirst};
 
 use crate::alone::first_alone;
-use crate::changing::first_changing;
+use crate::changing::first_needed_by_groups;
 use crate::laws::needed_serves_first;
 use hippo_audit_common::place_in;
 use hippo_audit_search::{Audited, Compared, first_shared};
@@ -44,13 +44,13 @@ fn columns_in(alloc: Global, query: &[Name], audit: &Audit) -> Result<Refs, Memo
 
 /// Returns the expressions that must be shown to the query: one for each audited column, by the
 /// rules in force, if the audit asks for cells that were shown; otherwise none.
-pub fn to_be_seen(
+pub fn required_shown(
     alloc: Global,
     query: &Query,
     audit: &Audit,
     rules: &RulesInForce,
 ) -> Result<Exprs, Memory>
-    ensures { IfOk result (λ seen. seen ≡ to_be_seen rules.now query.now audit.now) }
+    ensures { IfOk result (λ seen. seen ≡ required_shown rules.now query.now audit.now) }
 {
     if !audit.shown {
         return Ok(Sequence::new(alloc));
@@ -71,7 +71,7 @@ fn first_needed<C: ChoiceView>(
     match form {
         Form::Plain => first_shared(alloc, compared),
         Form::Distinct => first_alone(alloc, compared),
-        Form::Grouped(shape) => first_changing(alloc, shape, compared),
+        Form::Grouped(shape) => first_needed_by_groups(alloc, shape, compared),
     }
 }
 
@@ -110,7 +110,7 @@ pub fn shared_of<C: ChoiceView>(
         audit_sets: &*audit_sets,
         choices: &*choices,
     };
-    let seen = to_be_seen(alloc, query, audit, rules)?;
+    let seen = required_shown(alloc, query, audit, rules)?;
     let masked = rewrite(alloc, query, rules)?;
     let compared = Compared {
         query: &masked,

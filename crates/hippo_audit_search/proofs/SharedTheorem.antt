@@ -30,7 +30,7 @@ use Rattle.hippo_audit_search.specs.FirstPlaces.{AreCommon, ShareAt, IsFirst, Is
 use Rattle.hippo_audit_search.specs.Candidates.{AreCandidates, first_passing}
 use Rattle.hippo_audit_search.proofs.AmongLemmas.{find-filter, find-same, and_grouped, those-of, found-among, among-holds}
 use Rattle.hippo_audit_search.specs.Searching.{SharedBy}
-use Rattle.hippo_audit_search.specs.Sides.{common_in, AreSidesOf, StandsForAudit}
+use Rattle.hippo_audit_search.specs.Sides.{common_in, AreSidesOf, RepresentsAudit}
 use Rattle.hippo_audit_search.proofs.CommonLemmas.{place-found, common-in-query, common-in-audit, common-distinct, common-open}
 use Rattle.hippo_audit_search.proofs.FirstLemmas.{find-map, find-first, find-none, first-holds}
 use Rattle.hippo_audit_search.proofs.SideLemmas.{one-of-product, any-of-product, share-both, both-share, one-agrees, agrees-one, counts-parts, parts-counted, unmasked_query, passes-unmasked_operand}
@@ -223,7 +223,7 @@ module _ {C : Type 0} (query : Masked) (audited : Audited C) (rows : HasRowsFor 
     same = length_map (place_in query.tables) both ∙ sym (length_map (place_in audited.audit.now.tables) both);
   }
 
-  pub common-served : (side : AuditSide) → StandsForAudit query audited.audit.now side → AreCommon (length audited.query_sets.now) (length audited.audit_sets.now) side.common.query.items side.common.audit.items
+  pub common-served : (side : AuditSide) → RepresentsAudit query audited.audit.now side → AreCommon (length audited.query_sets.now) (length audited.audit_sets.now) side.common.query.items side.common.audit.items
   common-served side stands =
       subst (λ (l : List Place). AreCommon (length audited.query_sets.now) (length audited.audit_sets.now) l side.common.audit.items) (sym stands.query_places)
       (subst (λ (l : List Place). AreCommon (length audited.query_sets.now) (length audited.audit_sets.now) (common_in query.tables query audited.audit.now) l) (sym stands.audit_places) served_here)

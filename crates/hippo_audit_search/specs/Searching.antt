@@ -107,8 +107,8 @@ SharedBy choices sides =
     sides.common.now.audit.items
 
 -- every combination that counts for a side has these places in some tables
-abbrev pub AreTold : {C : Type 0} → (C → Choices) → Side C → List Place → List Place → Type 0
-AreTold choices side tables told =
+abbrev pub AreDetermined : {C : Type 0} → (C → Choices) → Side C → List Place → List Place → Type 0
+AreDetermined choices side tables told =
     (places : List Place) → stands (choices side.choices.now) side.query.now side.sets.now places
     ≡ true
     → AgreeAt tables told places

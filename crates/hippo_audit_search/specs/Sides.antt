@@ -25,7 +25,7 @@ abbrev pub common_in : List Name → Masked → Audit → List Place
 common_in tables query audit = map (place_in tables) (common_tables query.tables audit.tables)
 
 -- a query represents an audit, and the places of its tables in common with another query are known
-pub record StandsForAudit (query : Masked) (audit : Audit) (side : AuditSide) : Type 0 where
+pub record RepresentsAudit (query : Masked) (audit : Audit) (side : AuditSide) : Type 0 where
   pub condition : side.unmasked ≡ condition_alone audit
   pub query_places : side.common.query.items ≡ common_in query.tables query audit
   pub audit_places : side.common.audit.items ≡ common_in audit.tables query audit

@@ -5,7 +5,7 @@ ghost use Rattle.hippo_join.specs.Existence.{HasOne, Decides};
 ghost use Rattle.hippo_join_stages.specs.Finding.{IsRising};
 ghost use Rattle.hippo_audit_search.specs.Comparing.{HaveRows, IsFirstPassing};
 ghost use Rattle.hippo_audit_search.specs.Sharing.{audit_has};
-ghost use Rattle.hippo_audit_search.specs.Sides.{StandsForAudit};
+ghost use Rattle.hippo_audit_search.specs.Sides.{RepresentsAudit};
 
 use crate::audited::{Audited, Compared};
 use crate::sharing::{AuditSide, audit_side, know_order, sides_of, tuple_found, unmasked_query};
@@ -82,7 +82,7 @@ fn first_listed<C: ChoiceView>(
 ) -> Result<Option<SharedTuple>, Memory>
     requires order { IsRising listed.now }
     requires rows { HaveRows compared.now }
-    requires side { StandsForAudit compared.now.query.now compared.now.audited.now.audit.now
+    requires side { RepresentsAudit compared.now.query.now compared.now.audited.now.audit.now
         side.now }
     ensures { IfOk result (IsFirstPassing C.choices compared.now listed.now) }
 {

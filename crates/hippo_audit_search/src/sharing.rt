@@ -4,7 +4,7 @@ ghost use Rattle.std.specs.List.{All};
 ghost use Rattle.hippo_tables_keyed.specs.RowSets.{IsAscending, key_in};
 ghost use Rattle.hippo_audit_search.specs.Comparing.{HaveRows, shared_between};
 ghost use Rattle.hippo_audit_search.specs.Searching.{HaveCommon};
-ghost use Rattle.hippo_audit_search.specs.Sides.{AreOfTuple, AreSidesOf, StandsForAudit, condition_alone, tuple_there};
+ghost use Rattle.hippo_audit_search.specs.Sides.{AreOfTuple, AreSidesOf, RepresentsAudit, condition_alone, tuple_there};
 
 use crate::audited::Compared;
 use crate::sides::Sides;
@@ -50,7 +50,7 @@ pub fn know_order(sets: &Sets<'_>)
 }
 
 pub(crate) fn audit_side(alloc: Global, query: &Masked, audit: &Audit) -> Result<AuditSide, Memory>
-    ensures { IfOk result (StandsForAudit query.now audit.now) }
+    ensures { IfOk result (RepresentsAudit query.now audit.now) }
 {
     let common = common_places(alloc, query.tables.as_slice(), audit.tables.as_slice())?;
     let blank = blank_row(alloc)?;
@@ -68,7 +68,7 @@ pub(crate) fn sides_of<'s, C: ChoiceView>(
     side: &'s AuditSide,
 ) -> Sides<'s, C>
     requires rows { HaveRows compared.now }
-    requires side { StandsForAudit compared.now.query.now compared.now.audited.now.audit.now
+    requires side { RepresentsAudit compared.now.query.now compared.now.audited.now.audit.now
         side.now }
     ensures are { AreSidesOf compared.now.query.now compared.now.seen.now compared.now.audited.now
         result }
@@ -100,7 +100,7 @@ pub(crate) fn tuple_found<C: ChoiceView>(
     found: Option<Vec<usize>>,
 ) -> Result<Option<SharedTuple>, Memory>
     requires rows { HaveRows compared.now }
-    requires side { StandsForAudit compared.now.query.now compared.now.audited.now.audit.now
+    requires side { RepresentsAudit compared.now.query.now compared.now.audited.now.audit.now
         side.now }
     requires places { AreOfTuple compared.now (option_map (λ places. places.items) found) }
     ensures { IfOk result (λ tuple. tuple ≡ option_map (tuple_there compared.now)
@@ -129,7 +129,7 @@ fn first_beside<C: ChoiceView>(
     side: &AuditSide,
 ) -> Result<Option<SharedTuple>, Memory>
     requires rows { HaveRows compared.now }
-    requires side { StandsForAudit compared.now.query.now compared.now.audited.now.audit.now
+    requires side { RepresentsAudit compared.now.query.now compared.now.audited.now.audit.now
         side.now }
     ensures { IfOk result (λ shared. shared ≡ shared_between C.choices compared.now) }
 {

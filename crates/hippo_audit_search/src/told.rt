@@ -4,7 +4,7 @@ ghost use Rattle.std.specs.List.{All};
 ghost use Rattle.hippo_join.specs.Existence.{Decides};
 ghost use Rattle.hippo_audit_search.specs.FirstPlaces.{AreChosen, IsFirst, IsFirstAmong, with_rows};
 ghost use Rattle.hippo_join_lookups.specs.Places.{slot_at};
-ghost use Rattle.hippo_audit_search.specs.Searching.{AreFewOf, AreFewShared, AreTold, HasOneOf, HaveCommon, IsOnlyShared, SharedBy};
+ghost use Rattle.hippo_audit_search.specs.Searching.{AreFewOf, AreFewShared, AreDetermined, HasOneOf, HaveCommon, IsOnlyShared, SharedBy};
 ghost use Rattle.hippo_audit_search.specs.ToldPlaces.{AreToldOf, AreToldShared};
 
 use crate::searching::{first_staged, first_walked, in_order, slots_with};
@@ -57,13 +57,13 @@ fn chosen_in(
 
 // The places in some tables that every counting combination of a side has, if lookups find one in
 // each table.
-fn told_places<C: ChoiceView>(
+fn determined_places<C: ChoiceView>(
     alloc: Global,
     side: &Side<'_, C>,
     tables: &[usize],
 ) -> Result<Option<Vec<usize>>, Memory>
     ensures { IfOk result (λ found. IfSome found
-        (λ places. AreTold C.choices side.now tables.now places.items)) }
+        (λ places. AreDetermined C.choices side.now tables.now places.items)) }
 {
     let slots = settled(side, alloc)?;
     let found = chosen_in(alloc, tables, &slots)?;
@@ -174,7 +174,7 @@ fn places_told<C: ChoiceView>(
         (λ places. AreToldOf how_many C.choices side.now tables.now places.items)) }
 {
     match how_many {
-        HowMany::Only => told_places(alloc, side, tables),
+        HowMany::Only => determined_places(alloc, side, tables),
         HowMany::Few => few_places(alloc, side, tables),
     }
 }

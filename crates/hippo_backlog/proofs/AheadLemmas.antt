@@ -15,7 +15,7 @@ use Rattle.hippo_model.specs.Validity.{is_valid}
 use Rattle.hippo_model.specs.Versions.{is_version, versions}
 use Rattle.hippo_model_laws.proofs.ValidFronts.{front_is_valid, next_number}
 use Rattle.hippo_keeper.specs.Keeping.{Store, RisesAbove, last_number}
-use Rattle.hippo_keeper.specs.Selecting.{is_stored_version, stored_versions, handed_over}
+use Rattle.hippo_keeper.specs.Selecting.{is_stored_version, stored_versions, selected_entries}
 use Rattle.hippo_keeper.proofs.RisingLemmas.{RisesAbove-lower, RisesAbove-append}
 use Rattle.hippo_keeper.proofs.StoredLemmas.{stored_versions-stored}
 use Rattle.hippo_backlog.specs.ReadingAhead.{ReadAhead, nothing_read, without_first, reached_by, with_piece, AreUpTo, BeginsAbove, has_read, IsAhead}
@@ -244,7 +244,7 @@ module _ (test : Entry → Bool) where
         )
 
     -- a batch of entries that are not read yet is handed over; nothing waited before
-    pub IsAhead-read : (stored_test : StoredEntry → Bool) → ((entry : Entry) → stored_test (stored entry) ≡ test entry) → (meaning : Meaning) → is_valid meaning history ≡ true → (max end : ℕ) (piece : Store) → ahead.waiting ≡ [] → piece ≡ handed_over stored_test ahead.reached max (map stored history) → end ≤ length history → ((new : IsAhead test place (with_piece max end piece ahead) history) × (new.used ≡ split.used))
+    pub IsAhead-read : (stored_test : StoredEntry → Bool) → ((entry : Entry) → stored_test (stored entry) ≡ test entry) → (meaning : Meaning) → is_valid meaning history ≡ true → (max end : ℕ) (piece : Store) → ahead.waiting ≡ [] → piece ≡ selected_entries stored_test ahead.reached max (map stored history) → end ≤ length history → ((new : IsAhead test place (with_piece max end piece ahead) history) × (new.used ≡ split.used))
     IsAhead-read stored_test agrees meaning valid max end piece none handed within =
         let nothing : split.waiting ≡ [] = none_stored split.waiting (sym split.forms ∙ none) in
         let place_read = split.place_is_read in

@@ -19,7 +19,7 @@ use Rattle.hippo_backlog.specs.declared.faults.ReadFault.{ReadFault}
 use Rattle.hippo_backlog.specs.declared.faults.ReadFault.TheVariants.{Damaged, Memory}
 use Rattle.hippo_backlog.specs.Calls.{reading_as_call}
 use Rattle.hippo_backlog.specs.ReadingAhead.{AreUpTo}
-use Rattle.hippo_backlog.specs.Backlogs.{is_version_of, versions_of, HeldVersions, no_versions, AreAt, BringsUp, Snapshots}
+use Rattle.hippo_backlog.specs.Backlogs.{is_version_of, versions_of, HeldVersions, no_versions, AreAt, AdvancesTo, Snapshots}
 use Rattle.hippo_backlog.proofs.AheadLemmas.{IsAhead-first, IsAhead-grown}
 use Rattle.hippo_backlog.proofs.CallLemmas.{same_Err, reading_as_call-fault}
 use Rattle.hippo_keeper.proofs.CallLemmas.{KeepsSame-here, IsAfterCall-none}
@@ -91,7 +91,7 @@ module _ (schema : Schema) (meaning : Meaning) where
 
 module _ (schema : Schema) (number : ℕ) (before after : KeeperState) (steps_old steps_new : ℕ) where
   module _ (new : HeldVersions) where
-    steps_within : {A : Type 0} (result : Result A ReadFault) → BringsUp schema number number result (no_versions schema.key) new before after steps_old steps_new → (meaning : Meaning) (history : History) → is_valid meaning history ≡ true → AreAt schema history new → steps_new ≤ steps_old + length (versions_of schema.name history)
+    steps_within : {A : Type 0} (result : Result A ReadFault) → AdvancesTo schema number number result (no_versions schema.key) new before after steps_old steps_new → (meaning : Meaning) (history : History) → is_valid meaning history ≡ true → AreAt schema history new → steps_new ≤ steps_old + length (versions_of schema.name history)
     steps_within result brings meaning history valid there =
         let steps = brings.reads.hands.steps in
         let counted = brings.reads.taken.counted in
@@ -99,7 +99,7 @@ module _ (schema : Schema) (number : ℕ) (before after : KeeperState) (steps_ol
         omega (arith, steps, counted, within)
 
     -- the rows as they were in the past
-    pub Snapshots-ok : BringsUp {A = Unit {0}} schema number number (Ok tt) (no_versions schema.key) new before after steps_old steps_new → Snapshots schema number (Ok new.rows) before after steps_old steps_new
+    pub Snapshots-ok : AdvancesTo {A = Unit {0}} schema number number (Ok tt) (no_versions schema.key) new before after steps_old steps_new → Snapshots schema number (Ok new.rows) before after steps_old steps_new
     Snapshots-ok brings = record {
       handed = brings.reads.handed;
       hands = brings.reads.hands;
@@ -114,7 +114,7 @@ module _ (schema : Schema) (number : ℕ) (before after : KeeperState) (steps_ol
     }
 
     -- a fault
-    pub Snapshots-err : (fault : ReadFault) → BringsUp {A = Unit {0}} schema number number (Err fault) (no_versions schema.key) new before after steps_old steps_new → Snapshots schema number (Err fault) before after steps_old steps_new
+    pub Snapshots-err : (fault : ReadFault) → AdvancesTo {A = Unit {0}} schema number number (Err fault) (no_versions schema.key) new before after steps_old steps_new → Snapshots schema number (Err fault) before after steps_old steps_new
     Snapshots-err fault brings = record {
       handed = brings.reads.handed;
       hands = subst (λ (r : Result (Unit {0}) KeeperFault). HandsOver r brings.reads.handed before after steps_old steps_new) (reading_as_call-fault (Unit {0}) KeyedRows fault) brings.reads.hands;
@@ -133,14 +133,14 @@ module _ (schema : Schema) (number : ℕ) (before after : KeeperState) (steps_ol
 
 module _ (schema : Schema) (number : ℕ) (before after : KeeperState) (steps_old steps_new : ℕ) (key : List Place) (first new : HeldVersions) (key_is : key ≡ schema.key) (first_is : first ≡ no_versions key) where
   -- the same, with each part given separately
-  pub snapshot_ok : (rows : KeyedRows) → rows ≡ new.rows → BringsUp {A = Unit {0}} schema number number (Ok tt) first new before after steps_old steps_new → Snapshots schema number (Ok rows) before after steps_old steps_new
+  pub snapshot_ok : (rows : KeyedRows) → rows ≡ new.rows → AdvancesTo {A = Unit {0}} schema number number (Ok tt) first new before after steps_old steps_new → Snapshots schema number (Ok rows) before after steps_old steps_new
   snapshot_ok rows same brings =
       subst (λ (r : KeyedRows). Snapshots schema number (Ok r) before after steps_old steps_new) (sym same)
-      (Snapshots-ok schema number before after steps_old steps_new new (subst (λ (held : HeldVersions). BringsUp {A = Unit {0}} schema number number (Ok tt) held new before after steps_old steps_new) (first_is ∙ ap no_versions key_is) brings))
+      (Snapshots-ok schema number before after steps_old steps_new new (subst (λ (held : HeldVersions). AdvancesTo {A = Unit {0}} schema number number (Ok tt) held new before after steps_old steps_new) (first_is ∙ ap no_versions key_is) brings))
 
-  pub snapshot_err : (fault : ReadFault) → BringsUp {A = Unit {0}} schema number number (Err fault) first new before after steps_old steps_new → Snapshots schema number (Err fault) before after steps_old steps_new
+  pub snapshot_err : (fault : ReadFault) → AdvancesTo {A = Unit {0}} schema number number (Err fault) first new before after steps_old steps_new → Snapshots schema number (Err fault) before after steps_old steps_new
   snapshot_err fault brings =
-      Snapshots-err schema number before after steps_old steps_new new fault (subst (λ (held : HeldVersions). BringsUp {A = Unit {0}} schema number number (Err fault) held new before after steps_old steps_new) (first_is ∙ ap no_versions key_is) brings)
+      Snapshots-err schema number before after steps_old steps_new new fault (subst (λ (held : HeldVersions). AdvancesTo {A = Unit {0}} schema number number (Err fault) held new before after steps_old steps_new) (first_is ∙ ap no_versions key_is) brings)
 
 -- memory ran out before anything was read
 pub Snapshots-none : (schema : Schema) (number : ℕ) (keeper : KeeperState) (steps : ℕ) → IsReady true keeper → Snapshots schema number (Err Memory) keeper keeper steps steps

@@ -18,7 +18,7 @@ use Rattle.hippo_model.specs.Versions.{row_fits, key_fits}
 use Rattle.hippo_tables_keyed.proofs.KeptRows.{slice_get-find_row, is_some-find_row}
 use Rattle.hippo_entry.specs.Forms.{IsEntryOf}
 use Rattle.hippo_backlog.specs.declared.faults.ReadFault.TheVariants.{Damaged}
-use Rattle.hippo_backlog.specs.Taking.{put_with, Becomes, result_of_fit, TakesVersion}
+use Rattle.hippo_backlog.specs.Taking.{put_with, Becomes, result_of_fit, AppliesVersion}
 use Rattle.hippo_keeper.proofs.Results.{err_of}
 
 -- a place is found exactly when there is a row
@@ -69,7 +69,7 @@ becomes_put after old put new (Ok done) is made e = is ∙ ap Some (sym made)
 becomes_put after old put new (Err memory) is made e = absurd cc
 
 -- the result of applying an entry
-pub taken_by : (schema : Schema) (kept : StoredEntry) (entry : Entry) (change : Result Bool Memory) (old new : KeyedRows) → IsEntryOf kept (Some entry) → Becomes (changed schema entry.moment entry.act old) change old new → TakesVersion {A = Unit {0}} schema kept (result_of_fit kept.seq change) old new
+pub taken_by : (schema : Schema) (kept : StoredEntry) (entry : Entry) (change : Result Bool Memory) (old new : KeyedRows) → IsEntryOf kept (Some entry) → Becomes (changed schema entry.moment entry.act old) change old new → AppliesVersion {A = Unit {0}} schema kept (result_of_fit kept.seq change) old new
 taken_by schema kept entry (Ok true) old new found becomes = record {
   ok = record { entry = entry; form = found.sound; change = becomes };
   err = tt;
@@ -101,7 +101,7 @@ taken_by schema kept entry (Err memory) old new found becomes = record {
 }
 
 -- no entry has this stored form
-pub none_has : (schema : Schema) (kept : StoredEntry) (rows : KeyedRows) → IsEntryOf kept None → TakesVersion {A = Unit {0}} schema kept (Err (Damaged kept.seq)) rows rows
+pub none_has : (schema : Schema) (kept : StoredEntry) (rows : KeyedRows) → IsEntryOf kept None → AppliesVersion {A = Unit {0}} schema kept (Err (Damaged kept.seq)) rows rows
 none_has schema kept rows found = record {
   ok = tt;
   err = refl;

@@ -29,14 +29,14 @@ use Rattle.hippo_model_laws.proofs.ActCodes.{stored_again}
 use Rattle.hippo_entry.specs.Forms.{HasForm}
 use Rattle.hippo_keeper.specs.declared.faults.KeeperFault.{KeeperFault}
 use Rattle.hippo_keeper.specs.Keeping.{Store, RisesAbove, KeeperState, IsReady}
-use Rattle.hippo_keeper.specs.Selecting.{is_stored_version, stored_versions, handed_over, ReadsEntries, is_stored_version_of}
+use Rattle.hippo_keeper.specs.Selecting.{is_stored_version, stored_versions, selected_entries, ReadsEntries, is_stored_version_of}
 use Rattle.hippo_keeper.proofs.StoredLemmas.{is_stored_version-stored}
 use Rattle.hippo_backlog.specs.declared.faults.ReadFault.{ReadFault}
 use Rattle.hippo_backlog.specs.declared.faults.ReadFault.TheVariants.{Keeper, Damaged}
 use Rattle.hippo_backlog.specs.Calls.{read_fault, reading_as_call}
 use Rattle.hippo_backlog.specs.ReadingAhead.{ReadAhead, without_first, with_piece, BeginsAbove, has_read, IsAhead}
-use Rattle.hippo_backlog.specs.Taking.{HasTaken, TakesVersion}
-use Rattle.hippo_backlog.specs.Backlogs.{is_version_of, HeldVersions, higher_of, AreAt, KeepsFit, TakesInVersions, HasUnfit, NamesUnfit, TakesWaiting, ReadsOn, BringsUp}
+use Rattle.hippo_backlog.specs.Taking.{HasApplied, AppliesVersion}
+use Rattle.hippo_backlog.specs.Backlogs.{is_version_of, HeldVersions, higher_of, AreAt, PreservesState, TakesInVersions, HasUnfit, NamesUnfit, TakesWaiting, ReadsOn, AdvancesTo}
 use Rattle.hippo_backlog.proofs.AheadLemmas.{IsAhead-used, IsAhead-moved, IsAhead-read, reached_by-least, reached_by-further}
 use Rattle.hippo_backlog.proofs.NumberLemmas.{last-above}
 use Rattle.hippo_backlog.proofs.CallLemmas.{reading_as_call-unfailed, same_Err, reading_as_call-read_fault}
@@ -251,7 +251,7 @@ module _ (schema : Schema) (old : HeldVersions) (kept : StoredEntry) (first : sl
         above = omega arith;
       }
 
-  module _ (number : ℕ) (rows : KeyedRows) (within : kept.seq ≤ number) (taken : HasTaken schema kept old.rows rows) where
+  module _ (number : ℕ) (rows : KeyedRows) (within : kept.seq ≤ number) (taken : HasApplied schema kept old.rows rows) where
     abbrev after : HeldVersions
     after = record { rows = rows; ahead = without_first old.ahead; place = higher_of old.place kept.seq }
 
@@ -270,7 +270,7 @@ module _ (schema : Schema) (old : HeldVersions) (kept : StoredEntry) (first : sl
       limit = λ so_far. raised_most old.place kept.seq number so_far within;
     }
 
-    keeps_one : KeepsFit schema old after
+    keeps_one : PreservesState schema old after
     keeps_one meaning history valid there =
         let next = next_of meaning history valid there in
         let same : taken.entry ≡ next.next = stored_again taken.entry next.next taken.form.0 next.form.0 (taken.form.1 ∙ sym next.form.1) in
@@ -300,7 +300,7 @@ module _ (schema : Schema) (old : HeldVersions) (kept : StoredEntry) (first : sl
       none-some after (sym none ∙ change_at earlier entry same ∙ ap (λ (b : Bool). then_some b after) fits)
 
   -- it does not fit, or memory ran out
-  pub takes_first-err : (number : ℕ) (fault : ReadFault) (rows : KeyedRows) → TakesVersion {A = Unit {0}} schema kept (Err fault) old.rows rows → TakesWaiting {A = Bool} schema number (Err fault) old old
+  pub takes_first-err : (number : ℕ) (fault : ReadFault) (rows : KeyedRows) → AppliesVersion {A = Unit {0}} schema kept (Err fault) old.rows rows → TakesWaiting {A = Bool} schema number (Err fault) old old
   takes_first-err number fault rows takes = record {
     taken = TakesInVersions-here schema number old;
     keeps = λ meaning history valid there. there;
@@ -325,13 +325,13 @@ module _ (schema : Schema) (old : HeldVersions) (kept : StoredEntry) (first : sl
   }
 
 -- the first version is applied, with each part given separately
-pub first_taken : (schema : Schema) (inside old : HeldVersions) → inside ≡ old → (number : ℕ) (kept : StoredEntry) (rows : KeyedRows) (ahead : ReadAhead) (place : ℕ) → slice_get inside.ahead.waiting 0 ≡ Some kept → kept.seq ≤ number → HasTaken schema kept inside.rows rows → ahead ≡ without_first inside.ahead → place ≡ higher_of inside.place kept.seq → TakesWaiting {A = Bool} schema number (Ok true) old (record { rows = rows; ahead = ahead; place = place })
+pub first_taken : (schema : Schema) (inside old : HeldVersions) → inside ≡ old → (number : ℕ) (kept : StoredEntry) (rows : KeyedRows) (ahead : ReadAhead) (place : ℕ) → slice_get inside.ahead.waiting 0 ≡ Some kept → kept.seq ≤ number → HasApplied schema kept inside.rows rows → ahead ≡ without_first inside.ahead → place ≡ higher_of inside.place kept.seq → TakesWaiting {A = Bool} schema number (Ok true) old (record { rows = rows; ahead = ahead; place = place })
 first_taken schema inside old same number kept rows ahead place first within taken ahead_is place_is =
     subst (λ (held : HeldVersions). TakesWaiting {A = Bool} schema number (Ok true) held (record { rows = rows; ahead = ahead; place = place })) same
     (subst (λ (held : HeldVersions). TakesWaiting {A = Bool} schema number (Ok true) inside held) (λ i. record { rows = rows; ahead = sym ahead_is i; place = sym place_is i }) (takes_first-ok schema inside kept first number rows within taken))
 
 -- it is not applied
-pub first_untaken : (schema : Schema) (inside old : HeldVersions) → inside ≡ old → (number : ℕ) (kept : StoredEntry) (fault : ReadFault) (rows : KeyedRows) → slice_get inside.ahead.waiting 0 ≡ Some kept → TakesVersion {A = Unit {0}} schema kept (Err fault) inside.rows rows → TakesWaiting {A = Bool} schema number (Err fault) old (record { rows = rows; ahead = inside.ahead; place = inside.place })
+pub first_untaken : (schema : Schema) (inside old : HeldVersions) → inside ≡ old → (number : ℕ) (kept : StoredEntry) (fault : ReadFault) (rows : KeyedRows) → slice_get inside.ahead.waiting 0 ≡ Some kept → AppliesVersion {A = Unit {0}} schema kept (Err fault) inside.rows rows → TakesWaiting {A = Bool} schema number (Err fault) old (record { rows = rows; ahead = inside.ahead; place = inside.place })
 first_untaken schema inside old same number kept fault rows first takes =
     subst (λ (held : HeldVersions). TakesWaiting {A = Bool} schema number (Err fault) held (record { rows = rows; ahead = inside.ahead; place = inside.place })) same
     (subst (λ (held : HeldVersions). TakesWaiting {A = Bool} schema number (Err fault) inside held) (λ i. record { rows = sym takes.err i; ahead = inside.ahead; place = inside.place }) (takes_first-err schema inside kept first number fault rows takes))
@@ -360,7 +360,7 @@ module _ (schema : Schema) (max end : ℕ) (old : HeldVersions) (before after : 
       limit = λ within. within;
     };
     keeps = λ tells meaning history store within there.
-        let handed = reads.ok.told tells ∙ ap (λ (s : Store). handed_over (is_stored_version_of schema.name) old.ahead.reached max s) (sym store.forms) in
+        let handed = reads.ok.told tells ∙ ap (λ (s : Store). selected_entries (is_stored_version_of schema.name) old.ahead.reached max s) (sym store.forms) in
         let read = IsAhead-read (is_version_of schema.name) old.place old.ahead history there.split (is_stored_version_of schema.name) (same_test schema.name) meaning store.valid max end piece used handed within in
         record { created = there.created; split = read.0; rows_are = there.rows_are ∙ ap (kept_at schema) (sym read.1) };
   }
@@ -426,8 +426,8 @@ module _ (schema : Schema) (number end : ℕ) where
     }
 
     -- up to a fault
-    pub BringsUp-waiting : (fault : ReadFault) → TakesWaiting {A = Unit {0}} schema number (Err fault) mid new → BringsUp {A = Unit {0}} schema number end (Err fault) old new before now steps_old steps_now
-    BringsUp-waiting fault takes = record {
+    pub AdvancesTo-waiting : (fault : ReadFault) → TakesWaiting {A = Unit {0}} schema number (Err fault) mid new → AdvancesTo {A = Unit {0}} schema number end (Err fault) old new before now steps_old steps_now
+    AdvancesTo-waiting fault takes = record {
       reads = ReadsOn-waiting (err_of (Unit {0}) fault) takes;
       place_is = tt;
       damaged = NamesUnfit-then schema number (err_of (Unit {0}) fault) so_far.handed old mid so_far.taken takes.damaged;
@@ -450,8 +450,8 @@ module _ (schema : Schema) (number end : ℕ) where
             reads.keeps tells meaning history (subst (λ (s : Store). IsStoreOf meaning s history) (sym (so_far.hands.stays tells_now).same) store) within (so_far.keeps tells_now meaning history store within there);
       }
 
-      pub BringsUp-fault : (fault : ReadFault) → ReadsOn schema number end (reading_as_call (err_of (Unit {0}) fault)) mid new now after steps_now steps_new → ((place : ℕ) → err_of (Unit {0}) fault ≢ Err (Damaged place)) → BringsUp {A = Unit {0}} schema number end (Err fault) old new before after steps_old steps_new
-      BringsUp-fault fault reads undamaged = record {
+      pub AdvancesTo-fault : (fault : ReadFault) → ReadsOn schema number end (reading_as_call (err_of (Unit {0}) fault)) mid new now after steps_now steps_new → ((place : ℕ) → err_of (Unit {0}) fault ≢ Err (Damaged place)) → AdvancesTo {A = Unit {0}} schema number end (Err fault) old new before after steps_old steps_new
+      AdvancesTo-fault fault reads undamaged = record {
         reads = ReadsOn-then (reading_as_call (err_of (Unit {0}) fault)) reads;
         place_is = tt;
         damaged = λ place is. absurd (undamaged place is);
@@ -464,12 +464,12 @@ module _ (schema : Schema) (number end : ℕ) where
     ReadsOn-piece reads = ReadsOn-then old mid new before now one two (ReadsOn-waiting old held mid before now one two so_far (well ReadFault) takes) after three (well KeeperFault) reads
 
     -- or the read fails
-    pub BringsUp-unread : (fault : ReadFault) → ReadsOn schema number end (reading_as_call (err_of (Unit {0}) fault)) mid new now after two three → ((place : ℕ) → err_of (Unit {0}) fault ≢ Err (Damaged place)) → BringsUp {A = Unit {0}} schema number end (Err fault) old new before after one three
-    BringsUp-unread fault reads undamaged = BringsUp-fault old mid new before now one two (ReadsOn-waiting old held mid before now one two so_far (well ReadFault) takes) after three fault reads undamaged
+    pub AdvancesTo-unread : (fault : ReadFault) → ReadsOn schema number end (reading_as_call (err_of (Unit {0}) fault)) mid new now after two three → ((place : ℕ) → err_of (Unit {0}) fault ≢ Err (Damaged place)) → AdvancesTo {A = Unit {0}} schema number end (Err fault) old new before after one three
+    AdvancesTo-unread fault reads undamaged = AdvancesTo-fault old mid new before now one two (ReadsOn-waiting old held mid before now one two so_far (well ReadFault) takes) after three fault reads undamaged
 
   -- all versions up to the number are applied
-  pub BringsUp-end : (old mid : HeldVersions) (before now : KeeperState) (steps_old steps_now : ℕ) → ReadsOn schema number end (well KeeperFault) old mid before now steps_old steps_now → mid.place ≤ number → BeginsAbove number mid.ahead.waiting → has_read number mid.ahead ≡ true → BringsUp {A = Unit {0}} schema number end (Ok tt) old (placed number mid) before now steps_old steps_now
-  BringsUp-end old mid before now steps_old steps_now so_far forward begins read = record {
+  pub AdvancesTo-end : (old mid : HeldVersions) (before now : KeeperState) (steps_old steps_now : ℕ) → ReadsOn schema number end (well KeeperFault) old mid before now steps_old steps_now → mid.place ≤ number → BeginsAbove number mid.ahead.waiting → has_read number mid.ahead ≡ true → AdvancesTo {A = Unit {0}} schema number end (Ok tt) old (placed number mid) before now steps_old steps_now
+  AdvancesTo-end old mid before now steps_old steps_now so_far forward begins read = record {
     reads = ReadsOn-waiting old mid (placed number mid) before now steps_old steps_now so_far (well ReadFault) moved;
     place_is = refl;
     damaged = λ place is. absurd cc;

@@ -47,8 +47,8 @@ pub record AreAt (schema : Schema) (history : History) (held : HeldVersions) : T
   pub rows_are : held.rows ≡ kept_at schema split.used
 
 -- whenever the old state is that of a valid history, the new state is that of the same history
-abbrev pub KeepsFit : Schema → HeldVersions → HeldVersions → Type 0
-KeepsFit schema old new =
+abbrev pub PreservesState : Schema → HeldVersions → HeldVersions → Type 0
+PreservesState schema old new =
     (meaning : Meaning) (history : History) → is_valid meaning history ≡ true
     → AreAt schema history old
     → AreAt schema history new
@@ -89,7 +89,7 @@ NamesUnfit schema result entries old =
 pub record TakesWaiting {A : Type 0} (schema : Schema) (number : ℕ) (result : Result A ReadFault)
     (old new : HeldVersions) : Type 0 where
   pub taken : TakesInVersions schema number [] old new
-  pub keeps : KeepsFit schema old new
+  pub keeps : PreservesState schema old new
   pub reached_is : new.ahead.reached ≡ old.ahead.reached
   pub damaged : NamesUnfit schema result old.ahead.waiting old
   pub undamaged : (meaning : Meaning) (history : History) → is_valid meaning history ≡ true
@@ -111,7 +111,7 @@ pub record ReadsOn {A : Type 0} (schema : Schema) (number end : ℕ) (call : Res
 
 -- the rows are moved forward to a number, or `Damaged` names an entry that does not fit; it never
 -- does if the store's contents are known and are a valid history
-pub record BringsUp {A : Type 0} (schema : Schema) (number end : ℕ) (result : Result A ReadFault)
+pub record AdvancesTo {A : Type 0} (schema : Schema) (number end : ℕ) (result : Result A ReadFault)
     (old new : HeldVersions)
     (before after : KeeperState) (steps_old steps_new : ℕ) : Type 0 where
   pub reads : ReadsOn schema number end (reading_as_call result) old new before after steps_old

@@ -37,16 +37,16 @@ result_of_fit number (Ok false) = Err (Damaged number)
 result_of_fit number (Err memory) = Err read_faults.Memory
 
 -- the entry that this stored form decodes to has changed the rows
-pub record HasTaken (schema : Schema) (kept : StoredEntry) (old new : KeyedRows) : Type 0 where
+pub record HasApplied (schema : Schema) (kept : StoredEntry) (old new : KeyedRows) : Type 0 where
   pub entry : Entry
   pub form : HasForm kept entry
   pub change : changed schema entry.moment entry.act old ≡ Some new
 
 -- a stored entry is applied to the rows, or no entry with this stored form changes them
-pub record TakesVersion {A : Type 0} (schema : Schema) (kept : StoredEntry)
+pub record AppliesVersion {A : Type 0} (schema : Schema) (kept : StoredEntry)
     (result : Result A ReadFault)
     (old new : KeyedRows) : Type 0 where
-  pub ok : OnOk result (HasTaken schema kept old new)
+  pub ok : OnOk result (HasApplied schema kept old new)
   pub err : OnErr result (new ≡ old)
   pub number : (number : ℕ) → result ≡ Err (Damaged number) → number ≡ kept.seq
   pub damaged : (number : ℕ) → result ≡ Err (Damaged number) → (entry : Entry) → HasForm kept entry

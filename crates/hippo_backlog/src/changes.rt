@@ -6,7 +6,7 @@ ghost use Rattle.hippo_tables_keyed.specs.Changes.{changed};
 ghost use Rattle.hippo_model.specs.Rows.{key_of};
 ghost use Rattle.hippo_tables_keyed.specs.RowSets.{row_with};
 ghost use Rattle.hippo_model.specs.Versions.{row_fits, key_fits};
-ghost use Rattle.hippo_backlog.specs.Taking.{put_with, Becomes, result_of_fit, TakesVersion};
+ghost use Rattle.hippo_backlog.specs.Taking.{put_with, Becomes, result_of_fit, AppliesVersion};
 
 use crate::faults::ReadFault;
 use hippo_entry::decode;
@@ -145,7 +145,7 @@ pub(crate) fn take(
     rows: &mut RowSet,
 ) -> Result<(), ReadFault>
     requires key { rows.old.key ≡ schema.now.key }
-    ensures takes { TakesVersion schema.now kept.now result rows.old rows.new }
+    ensures takes { AppliesVersion schema.now kept.now result rows.old rows.new }
 {
     match decode(alloc, kept) {
         Ok(Some(entry)) => {

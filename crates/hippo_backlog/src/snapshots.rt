@@ -35,7 +35,7 @@ pub fn snapshot<P: Keeper, L: Ledger>(
         Ok(key) => Versions::new(alloc, key),
         Err(Memory) => return Err(ReadFault::Memory),
     };
-    match versions.bring_up(keeper, alloc, schema, number, number, steps) {
+    match versions.advance_to(keeper, alloc, schema, number, number, steps) {
         Ok(()) => Ok(versions.into_rows()),
         Err(fault) => Err(fault),
     }

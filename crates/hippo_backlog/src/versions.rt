@@ -3,7 +3,7 @@ ghost use Rattle.std.specs.Prelude.{◌≡◌, ◌≢◌, ℕ, ◌≤◌, ◌<�
 ghost use Rattle.hippo_keeper.specs.Keeping.{IsReady};
 ghost use Rattle.hippo_backlog.specs.Calls.{reading_as_call};
 ghost use Rattle.hippo_backlog.specs.ReadingAhead.{BeginsAbove, has_read};
-ghost use Rattle.hippo_backlog.specs.Backlogs.{no_versions, higher_of, TakesWaiting, ReadsOn, BringsUp};
+ghost use Rattle.hippo_backlog.specs.Backlogs.{no_versions, higher_of, TakesWaiting, ReadsOn, AdvancesTo};
 ghost use Rattle.hippo_backlog.specs.declared.faults.ReadFault.TheVariants.{Damaged};
 
 use crate::ahead::Ahead;
@@ -173,7 +173,7 @@ impl Versions {
     /// `Damaged` has the number of an entry that was handed over and does not fit. It is never
     /// returned if the store's contents are known and are a valid history. Each version is read
     /// once and is then one step.
-    pub fn bring_up<P: Keeper, L: Ledger>(
+    pub fn advance_to<P: Keeper, L: Ledger>(
         &mut self,
         keeper: &mut P,
         alloc: Global,
@@ -186,7 +186,7 @@ impl Versions {
         requires key { self.old.rows.key ≡ schema.now.key }
         requires forward { self.old.place ≤ number }
         requires end { number ≤ end }
-        ensures brings { BringsUp schema.now number end result self.old self.new
+        ensures brings { AdvancesTo schema.now number end result self.old self.new
             (P.state keeper.old) (P.state keeper.new) steps.old steps.new }
     {
         loop {

@@ -29,7 +29,7 @@ use Rattle.hippo_intervals.proofs.LivesLemmas.{LivesFit-first}
 use Rattle.hippo_audit_job.specs.declared.past.Past.{Past}
 use Rattle.hippo_audit_job.specs.Examining.{IsPastOf}
 use Rattle.hippo_combine.specs.Held.{lives_of, place_held, AreHeldAt, all_taken, TablesFit}
-use Rattle.hippo_combine.specs.Bringing.{with_table, IsPlaceOf, AreHeldIfKnown, Brings}
+use Rattle.hippo_combine.specs.Bringing.{with_table, IsPlaceOf, AreHeldIfKnown, AdvancesTables}
 use Rattle.hippo_combine.proofs.HeldLemmas.{all-set, all-push, all-at, sum-set, name_of, names-set, others-differ, apart-push, lives_of-set, held-set, held-push}
 
 -- ---- the place of a table
@@ -90,8 +90,8 @@ module _ (schema : Schema) where
 
 module _ (past : Past) (number : ℕ) where
   -- nothing is done
-  pub Brings-none : {A : Type 0} (result : Result A ReadFault) (tables : List HeldLives) (keeper : KeeperState) (steps : ℕ) → has_failed (reading_as_call result) ≡ false → ((place : ℕ) → result ≢ Err (Damaged place)) → IsReady true keeper → Brings past number result tables tables keeper keeper steps steps
-  Brings-none result tables keeper steps good whole ready = record {
+  pub AdvancesTables-none : {A : Type 0} (result : Result A ReadFault) (tables : List HeldLives) (keeper : KeeperState) (steps : ℕ) → has_failed (reading_as_call result) ≡ false → ((place : ℕ) → result ≢ Err (Damaged place)) → IsReady true keeper → AdvancesTables past number result tables tables keeper keeper steps steps
+  AdvancesTables-none result tables keeper steps good whole ready = record {
     is_after = IsAfterCall-none (reading_as_call result) keeper good ready;
     stays = λ tells. KeepsSame-here keeper;
     up_to = λ within. within;
@@ -102,8 +102,8 @@ module _ (past : Past) (number : ℕ) where
   }
 
   -- a call after another that succeeded
-  pub Brings-then : {A B : Type 0} (first : Result A ReadFault) (second : Result B ReadFault) (old mid new : List HeldLives) (before between after : KeeperState) (s0 s1 s2 : ℕ) → has_failed (reading_as_call first) ≡ false → Brings past number first old mid before between s0 s1 → Brings past number second mid new between after s1 s2 → Brings past number second old new before after s0 s2
-  Brings-then first second old mid new before between after s0 s1 s2 good one other =
+  pub AdvancesTables-then : {A B : Type 0} (first : Result A ReadFault) (second : Result B ReadFault) (old mid new : List HeldLives) (before between after : KeeperState) (s0 s1 s2 : ℕ) → has_failed (reading_as_call first) ≡ false → AdvancesTables past number first old mid before between s0 s1 → AdvancesTables past number second mid new between after s1 s2 → AdvancesTables past number second old new before after s0 s2
+  AdvancesTables-then first second old mid new before between after s0 s1 s2 good one other =
       let counted = one.ledger in
       let further = other.ledger in
       record {
@@ -121,8 +121,8 @@ module _ (past : Past) (number : ℕ) where
       }
 
   -- the same call with another result, which failed exactly when it did
-  pub Brings-as : {A B : Type 0} (one : Result A ReadFault) (other : Result B ReadFault) (old new : List HeldLives) (before after : KeeperState) (s0 s1 : ℕ) → has_failed (reading_as_call other) ≡ has_failed (reading_as_call one) → ((place : ℕ) → other ≡ Err (Damaged place) → one ≡ Err (Damaged place)) → Brings past number one old new before after s0 s1 → Brings past number other old new before after s0 s1
-  Brings-as one other old new before after s0 s1 same whole brings = record {
+  pub AdvancesTables-as : {A B : Type 0} (one : Result A ReadFault) (other : Result B ReadFault) (old new : List HeldLives) (before after : KeeperState) (s0 s1 : ℕ) → has_failed (reading_as_call other) ≡ has_failed (reading_as_call one) → ((place : ℕ) → other ≡ Err (Damaged place) → one ≡ Err (Damaged place)) → AdvancesTables past number one old new before after s0 s1 → AdvancesTables past number other old new before after s0 s1
+  AdvancesTables-as one other old new before after s0 s1 same whole brings = record {
     is_after = IsAfterCall-as true false (reading_as_call one) (reading_as_call other) before after same brings.is_after;
     stays = brings.stays;
     up_to = brings.up_to;
@@ -139,8 +139,8 @@ module _ (past : Past) (number : ℕ) where
         ap (schema_at history) (schema_named history table schema found) ∙ found
 
     -- one more table
-    Brings-push : (tables : List HeldLives) (keeper : KeeperState) (steps : ℕ) → lives_of tables schema.name ≡ None → IsReady true keeper → Brings past number (well ReadFault) tables (tables ++ no_lives schema ∷ []) keeper keeper steps steps
-    Brings-push tables keeper steps none ready =
+    AdvancesTables-push : (tables : List HeldLives) (keeper : KeeperState) (steps : ℕ) → lives_of tables schema.name ≡ None → IsReady true keeper → AdvancesTables past number (well ReadFault) tables (tables ++ no_lives schema ∷ []) keeper keeper steps steps
+    AdvancesTables-push tables keeper steps none ready =
         let count : all_taken (tables ++ no_lives schema ∷ []) ≡ all_taken tables + 0 = sum_by_push taken_by tables (no_lives schema) in
         record {
           is_after = IsAfterCall-none (reading_as_call (well ReadFault)) keeper refl ready;
@@ -156,18 +156,18 @@ module _ (past : Past) (number : ℕ) where
         }
 
     -- one more table, if it is not held
-    pub Brings-with : (tables : List HeldLives) (keeper : KeeperState) (steps : ℕ) → IsReady true keeper → Brings past number (well ReadFault) tables (with_table schema tables) keeper keeper steps steps
-    Brings-with tables keeper steps ready =
-        elim (lives_of tables schema.name) as (λ found. lives_of tables schema.name ≡ found → Brings past number (well ReadFault) tables (cond (is_some found) tables (tables ++ no_lives schema ∷ [])) keeper keeper steps steps) [
-          | None ↦ λ none. Brings-push tables keeper steps none ready
-          | Some lives ↦ λ is. Brings-none (well ReadFault) tables keeper steps refl (λ place e. absurd cc) ready
+    pub AdvancesTables-with : (tables : List HeldLives) (keeper : KeeperState) (steps : ℕ) → IsReady true keeper → AdvancesTables past number (well ReadFault) tables (with_table schema tables) keeper keeper steps steps
+    AdvancesTables-with tables keeper steps ready =
+        elim (lives_of tables schema.name) as (λ found. lives_of tables schema.name ≡ found → AdvancesTables past number (well ReadFault) tables (cond (is_some found) tables (tables ++ no_lives schema ∷ [])) keeper keeper steps steps) [
+          | None ↦ λ none. AdvancesTables-push tables keeper steps none ready
+          | Some lives ↦ λ is. AdvancesTables-none (well ReadFault) tables keeper steps refl (λ place e. absurd cc) ready
         ] refl
 
   module _ {A : Type 0} (result : Result A ReadFault) (tables : List HeldLives) (place : ℕ) (old new : HeldLives) (before after : KeeperState) (s0 s1 : ℕ)
       (at : slice_get tables place ≡ Some old) (advances : Advances number past.count result old new before after s0 s1) where
     -- a table's rows are moved forward
-    pub Brings-set : Brings past number result tables (slice_set tables place new) before after s0 s1
-    Brings-set =
+    pub AdvancesTables-set : AdvancesTables past number result tables (slice_set tables place new) before after s0 s1
+    AdvancesTables-set =
         let forward = advances.forward in
         let limit = advances.limit in
         let counted = advances.ledger in
@@ -230,11 +230,11 @@ new_place schema old new place lives is end first longer =
 module _ (past : Past) (number : ℕ) {A : Type 0} (result : Result A ReadFault) (schema : Schema) (tables mid : List HeldLives) (with : mid ≡ with_table schema tables) (place : ℕ) (is_place : IsPlaceOf schema.name place mid)
     (old new : HeldLives) (at : slice_get mid place ≡ Some old) (before after : KeeperState) (s0 s1 : ℕ) (advances : Advances number past.count result old new before after s0 s1) where
   -- a table is appended if it is not held, and moved forward
-  pub brings_one : IsReady true before → (table : Name) → table_of past.catalog.now.names table ≡ Some schema → Brings past number result tables (slice_set mid place new) before after s0 s1
+  pub brings_one : IsReady true before → (table : Name) → table_of past.catalog.now.names table ≡ Some schema → AdvancesTables past number result tables (slice_set mid place new) before after s0 s1
   brings_one ready table known =
-      Brings-then past number (well ReadFault) result tables mid (slice_set mid place new) before before after s0 s0 s1 refl
-      (subst (λ (m : List HeldLives). Brings past number (well ReadFault) tables m before before s0 s0) (sym with) (Brings-with past number schema table known tables before s0 ready))
-      (Brings-set past number result mid place old new before after s0 s1 at advances)
+      AdvancesTables-then past number (well ReadFault) result tables mid (slice_set mid place new) before before after s0 s0 s1 refl
+      (subst (λ (m : List HeldLives). AdvancesTables past number (well ReadFault) tables m before before s0 s0) (sym with) (AdvancesTables-with past number schema table known tables before s0 ready))
+      (AdvancesTables-set past number result mid place old new before after s0 s1 at advances)
 
   -- and is at the number then
   pub holds_one : OnOk result (AreHeldAt number (schema.name ∷ []) (slice_set mid place new))

@@ -43,7 +43,7 @@ use Rattle.hippo_model.specs.Audits.{first_serving}
 use Rattle.hippo_audit_needs.specs.Examining.{AreOfHistory}
 use Rattle.hippo_combine.specs.declared.combine.Combine.{Combine}
 use Rattle.hippo_combine.specs.Held.{schema_held, rows_held, are_held, AreHeldUpTo, all_taken, unread_count, TablesFit}
-use Rattle.hippo_combine.specs.Bringing.{AreKnown, AreHeldIfKnown, Brings}
+use Rattle.hippo_combine.specs.Bringing.{AreKnown, AreHeldIfKnown, AdvancesTables}
 use Rattle.hippo_combine.specs.Sharing.{HoldsBoth}
 use Rattle.hippo_combine.specs.Combining.{IsSoundCombine, combine_terms}
 use Rattle.hippo_combine.proofs.ExaminerLemmas.{only_memory, undamaged, no_entry}
@@ -153,7 +153,7 @@ module _ (past : Past) (audit : Audit) (entry : Entry) (query : Query) (old new 
 
   -- ---- tables that are moved forward
   module _ {B : Type 0} (number : ℕ) (next : number + 1 ≡ entry.seq) (one : Result B ReadFault) (after : KeeperState) (s1 : ℕ)
-      (brings : Brings past number one old.tables.items new.tables.items before after s0 s1) where
+      (brings : AdvancesTables past number one old.tables.items new.tables.items before after s0 s1) where
     within : AreHeldUpTo number old.tables.items
     within = up_to_number old entry.seq number sound order next
 

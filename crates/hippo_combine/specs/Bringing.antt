@@ -52,7 +52,7 @@ IsNumberBefore seq count None = (seq ≡ 0) ⊎ (count < seq)
 
 -- tables are moved forward to a number at most; each version that is read is a step, and is read
 -- once
-pub record Brings {A : Type 0} (past : Past) (number : ℕ) (result : Result A ReadFault)
+pub record AdvancesTables {A : Type 0} (past : Past) (number : ℕ) (result : Result A ReadFault)
     (old new : List HeldLives)
     (before after : KeeperState) (steps_old steps_new : ℕ) : Type 0 where
   pub is_after : IsAfterCall true false (reading_as_call result) before after
@@ -74,7 +74,7 @@ MayGo forward tables keeper = MayBring forward.past.now forward.number tables ke
 abbrev pub BringsOn : {A : Type 0} → Forward → Result A ReadFault → List HeldLives → List HeldLives
     → KeeperState → KeeperState → ℕ → ℕ → Type 0
 BringsOn forward result old new before after steps_old steps_new =
-    Brings forward.past.now forward.number result old new before after steps_old steps_new
+    AdvancesTables forward.past.now forward.number result old new before after steps_old steps_new
 
 abbrev pub AreBrought : Forward → List Name → List HeldLives → Type 0
 AreBrought forward names tables = AreHeldIfKnown forward.past.now forward.number names tables

@@ -8,7 +8,7 @@ use Rattle.hippo_model.specs.Histories.{schema_at}
 use Rattle.hippo_model.specs.Terms.{History}
 use Rattle.hippo_model.specs.Validity.{is_valid}
 use Rattle.hippo_policy.specs.declared.book.PolicyBook.{PolicyBook}
-use Rattle.hippo_policy.specs.Books.{BookStandsFor}
+use Rattle.hippo_policy.specs.Books.{BookRepresents}
 use Rattle.hippo_typing.specs.Meanings.{meaning}
 use Rattle.hippo_audit_job.specs.Examining.{IsAuditOf}
 use Rattle.hippo_intervals.specs.Living.{HeldLives}
@@ -20,7 +20,7 @@ pub record HoldsBoth (book : PolicyBook) (tables : List HeldLives) (number : ℕ
     (query : Query)
     (audit : Audit) : Type 0 where
   pub valid : is_valid meaning history ≡ true
-  pub book_is : BookStandsFor book history
+  pub book_is : BookRepresents book history
   pub fits : TablesFit tables history
   pub audit_is : IsAuditOf history audit
   pub names : names_all query audit ≡ true

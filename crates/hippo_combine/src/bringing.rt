@@ -5,7 +5,7 @@ ghost use Rattle.hippo_combine.specs.Bringing.{with_table, IsPlaceOf};
 use crate::held::place_of;
 use hippo_audit_job::Past;
 use hippo_backlog::ReadFault;
-use hippo_intervals::Lives;
+use hippo_intervals::LiveRows;
 use hippo_keeper::{Keeper, Steps};
 use hippo_model::{Audit, Query, Schema};
 use hippo_values::{Memory, Name};
@@ -13,14 +13,14 @@ use std::alloc::Global;
 use std::sync::ledger::Ledger;
 
 // The place of a table in the list. A table that is not held yet is appended.
-fn place_for(tables: &mut Vec<Lives>, alloc: Global, schema: &Schema) -> Result<usize, Memory>
+fn place_for(tables: &mut Vec<LiveRows>, alloc: Global, schema: &Schema) -> Result<usize, Memory>
     ensures with { OnOk result (tables.new.items ≡ with_table schema.now tables.old.items) }
     ensures place { IfOk result (λ place. IsPlaceOf schema.now.name place tables.new.items) }
     ensures same { OnErr result (tables.new.items ≡ tables.old.items) }
 {
     let place = place_of(tables.as_slice(), &schema.name);
     if place == tables.len() {
-        tables.push(Lives::new(alloc, schema)?)?;
+        tables.push(LiveRows::new(alloc, schema)?)?;
     }
     Ok(place)
 }
@@ -39,7 +39,7 @@ impl<'a> Forward<'a> {
     // Moves a table forward, if it is known.
     fn bring<P: Keeper, L: Ledger>(
         &self,
-        tables: &mut Vec<Lives>,
+        tables: &mut Vec<LiveRows>,
         keeper: &mut P,
         alloc: Global,
         table: &Name,
@@ -62,7 +62,7 @@ impl<'a> Forward<'a> {
     // Moves the known ones of the tables with these names forward.
     fn bring_all<P: Keeper, L: Ledger>(
         &self,
-        tables: &mut Vec<Lives>,
+        tables: &mut Vec<LiveRows>,
         keeper: &mut P,
         alloc: Global,
         names: &[Name],
@@ -81,7 +81,7 @@ impl<'a> Forward<'a> {
     /// Moves the known ones of an audit's and a query's tables forward.
     pub(crate) fn bring_both<P: Keeper, L: Ledger>(
         &self,
-        tables: &mut Vec<Lives>,
+        tables: &mut Vec<LiveRows>,
         keeper: &mut P,
         alloc: Global,
         query: &Query,

@@ -8,7 +8,7 @@ use crate::ordering::order_for;
 use crate::sharing::shared_with;
 use hippo_audit_job::{Examiner, Past};
 use hippo_backlog::ReadFault;
-use hippo_intervals::Lives;
+use hippo_intervals::LiveRows;
 use hippo_keeper::{Keeper, Steps};
 use hippo_model::{Audit, Entry, Query, SharedTuple};
 use std::alloc::Global;
@@ -19,7 +19,7 @@ use std::sync::ledger::Ledger;
 /// once.
 #[derive(Drop)]
 pub struct Combine {
-    tables: Vec<Lives>,
+    tables: Vec<LiveRows>,
     // The number of the entry that it was asked about last.
     asked: u64,
 }

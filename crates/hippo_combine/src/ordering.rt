@@ -2,13 +2,13 @@
 ghost use Rattle.std.specs.Prelude.{◌≡◌};
 
 use crate::held::place_of;
-use hippo_intervals::Lives;
+use hippo_intervals::LiveRows;
 use hippo_model::{Audit, CondOf, Names, Operand, Query, Ref};
 use hippo_values::{CompareOp, Name};
 use std::alloc::Global;
 
 // Keeps an index of a table's rows by a column, if the table is held.
-fn order_table(tables: &mut Vec<Lives>, alloc: Global, table: &Name, column: usize)
+fn order_table(tables: &mut Vec<LiveRows>, alloc: Global, table: &Name, column: usize)
     ensures { tables.new.items ≡ tables.old.items }
 {
     let place = place_of(tables.as_slice(), table);
@@ -19,7 +19,7 @@ fn order_table(tables: &mut Vec<Lives>, alloc: Global, table: &Name, column: usi
 }
 
 // Keeps an index by a column of one of the tables with these names.
-fn order_by(tables: &mut Vec<Lives>, alloc: Global, names: &Names, column: Ref)
+fn order_by(tables: &mut Vec<LiveRows>, alloc: Global, names: &Names, column: Ref)
     ensures { tables.new.items ≡ tables.old.items }
 {
     if let Some(table) = names.as_slice().get(column.table) {
@@ -38,7 +38,7 @@ fn says_value(operand: &Operand, table: usize) -> bool {
 
 // Keeps an index by the column on one side of an equality, if the other side gives its value.
 fn order_beside(
-    tables: &mut Vec<Lives>,
+    tables: &mut Vec<LiveRows>,
     alloc: Global,
     names: &Names,
     operand: &Operand,
@@ -54,7 +54,7 @@ fn order_beside(
 }
 
 // Keeps indexes by the columns whose values a part of a condition gives.
-fn order_for_part(tables: &mut Vec<Lives>, alloc: Global, names: &Names, part: &CondOf<Operand>)
+fn order_for_part(tables: &mut Vec<LiveRows>, alloc: Global, names: &Names, part: &CondOf<Operand>)
     ensures { tables.new.items ≡ tables.old.items }
 {
     if let CondOf::Compare {
@@ -68,7 +68,12 @@ fn order_for_part(tables: &mut Vec<Lives>, alloc: Global, names: &Names, part: &
     }
 }
 
-fn order_for_parts(tables: &mut Vec<Lives>, alloc: Global, names: &Names, parts: &[CondOf<Operand>])
+fn order_for_parts(
+    tables: &mut Vec<LiveRows>,
+    alloc: Global,
+    names: &Names,
+    parts: &[CondOf<Operand>],
+)
     ensures { tables.new.items ≡ tables.old.items }
 {
     for part in parts {
@@ -78,7 +83,7 @@ fn order_for_parts(tables: &mut Vec<Lives>, alloc: Global, names: &Names, parts:
 
 // Keeps indexes by the columns whose values the conjuncts of a condition give.
 fn order_for_condition(
-    tables: &mut Vec<Lives>,
+    tables: &mut Vec<LiveRows>,
     alloc: Global,
     names: &Names,
     condition: &CondOf<Operand>,
@@ -93,7 +98,7 @@ fn order_for_condition(
 
 /// Keeps indexes of the held rows from now on, by the columns that an audit and a query compare by
 /// `=` with a literal or with a column of another table. The rows do not change.
-pub(crate) fn order_for(tables: &mut Vec<Lives>, alloc: Global, query: &Query, audit: &Audit)
+pub(crate) fn order_for(tables: &mut Vec<LiveRows>, alloc: Global, query: &Query, audit: &Audit)
     ensures { tables.new.items ≡ tables.old.items }
 {
     order_for_condition(tables, alloc, &audit.tables, &audit.cond);

@@ -9,14 +9,14 @@ ghost use Rattle.hippo_combine.specs.Sharing.{HoldsBoth};
 use crate::asked::rules_asked;
 use crate::held::{have_rows, sets_of, tables_of};
 use hippo_audit_needs::shared_of;
-use hippo_intervals::Lives;
+use hippo_intervals::LiveRows;
 use hippo_model::{Audit, Entry, Query, SharedTuple};
 use hippo_policy::PolicyBook;
 use hippo_values::Memory;
 use std::alloc::Global;
 
 // Whether each table of an audit and of a query is held and has rows.
-fn have_all_rows(tables: &[Lives], query: &Query, audit: &Audit) -> bool
+fn have_all_rows(tables: &[LiveRows], query: &Query, audit: &Audit) -> bool
     ensures { result ≡ (are_held tables.now audit.now.tables
         && are_held tables.now query.now.tables) }
 {
@@ -27,7 +27,7 @@ fn have_all_rows(tables: &[Lives], query: &Query, audit: &Audit) -> bool
 /// over the rows before the entry. `None` if a table has no rows.
 pub(crate) fn shared_with(
     alloc: Global,
-    tables: &[Lives],
+    tables: &[LiveRows],
     book: &PolicyBook,
     number: u64,
     entry: &Entry,

@@ -2,7 +2,7 @@
 ghost use Rattle.std.specs.Prelude.{◌≡◌, ◌++◌, ◌∷◌, [], map, flat_map, codes, decimal, OnOk};
 ghost use Rattle.csv.specs.Records.{fields_of};
 ghost use Rattle.csv.specs.Writing.{default_writer, row_text, writer_under};
-ghost use Rattle.hippo_values_text.specs.Printing.{AddsText};
+ghost use Rattle.hippo_values_text.specs.Printing.{AppendsText};
 ghost use Rattle.hippo_model.specs.declared.cells.Cell.TheVariants.{Shown, Denied};
 ghost use Rattle.hippo_report.specs.Adding.{AddsWhole};
 ghost use Rattle.hippo_report.specs.Cells.{cell_text};
@@ -120,7 +120,7 @@ fn append_line<const ROOM: usize>(
     line: &[u8],
     out: &mut RoomyTxt<ROOM>,
 ) -> Result<(), Memory>
-    ensures adds { AddsText (decimal session ++ (codes " csv " ++ line.now))
+    ensures adds { AppendsText (decimal session ++ (codes " csv " ++ line.now))
         result out.old out.new }
 {
     match str::from_utf8(line) {
@@ -142,7 +142,7 @@ fn append_row<const ROOM: usize>(
 ) -> Result<(), Memory>
     requires { IsBetween tools.old.writer }
     ensures between { OnOk result (IsBetween tools.new.writer) }
-    ensures adds { AddsText (extract_line session row.now) result out.old out.new }
+    ensures adds { AppendsText (extract_line session row.now) result out.old out.new }
 {
     fill_record(row.as_slice(), &mut tools.text, &mut tools.record)?;
     let start = tools.writer.get_ref().len();
@@ -157,7 +157,7 @@ fn append_rows<const ROOM: usize>(
     out: &mut RoomyTxt<ROOM>,
 ) -> Result<(), Memory>
     requires { IsBetween tools.old.writer }
-    ensures adds { AddsText (flat_map (extract_line session) rows.now) result out.old out.new }
+    ensures adds { AppendsText (flat_map (extract_line session) rows.now) result out.old out.new }
 {
     for row in rows {
         append_row(session, row, tools, out)?;
@@ -171,7 +171,7 @@ fn append_answer<const ROOM: usize>(
     rows: &[CellRow],
     out: &mut RoomyTxt<ROOM>,
 ) -> Result<(), Memory>
-    ensures adds { AddsText (flat_map (extract_line session) rows.now) result out.old out.new }
+    ensures adds { AppendsText (flat_map (extract_line session) rows.now) result out.old out.new }
 {
     let mut tools = Extractor::new(alloc);
     let appended = append_rows(session, rows, &mut tools, out);

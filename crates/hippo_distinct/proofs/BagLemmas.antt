@@ -8,7 +8,7 @@ use Rattle.std.proofs.lemmas.List.Folds.{list_any-append}
 use Rattle.std.proofs.Math.Bool.{and-false}
 use Rattle.hippo_model.specs.Terms.{ShownRow}
 use Rattle.hippo_model.specs.Bags.{same_row, occurrences, same_bag}
-use Rattle.hippo_model.specs.Forms.{different_rows}
+use Rattle.hippo_model.specs.Forms.{distinct_rows}
 use Rattle.hippo_model.proofs.SameRows.{same_row-refl}
 use Rattle.hippo_distinct.proofs.DifferentLemmas.{same_row-exact}
 use Rattle.hippo_distinct.proofs.NeededRows.{is_among, one_if, counted, once}
@@ -150,16 +150,16 @@ module _ (some all : List ShownRow) (within : list_all (is_among all) some ≡ t
   shared_with row other true e = ap (λ (one : ShownRow). is_among some one && true) (sym (same_row-exact row other e))
   shared_with row other false e = and-false (is_among some other) ∙ sym (and-false (is_among some row))
 
-  of_some : (row : ShownRow) (among : Bool) → is_among some row ≡ among → count (λ other. among && same_row row other) (different_rows all) ≡ one_if among
-  of_some row true e = sym (occurrences-count row (different_rows all)) ∙ once row all ∙ ap one_if (at_member (is_among all) some within row e)
-  of_some row false e = count-none (different_rows all)
+  of_some : (row : ShownRow) (among : Bool) → is_among some row ≡ among → count (λ other. among && same_row row other) (distinct_rows all) ≡ one_if among
+  of_some row true e = sym (occurrences-count row (distinct_rows all)) ∙ once row all ∙ ap one_if (at_member (is_among all) some within row e)
+  of_some row false e = count-none (distinct_rows all)
 
-  same-different_rows : AreSame (different_rows some) (filter (is_among some) (different_rows all))
-  same-different_rows row =
-      sym (occurrences-count row (different_rows some)) ∙ once row some ∙ sym (of_some row (is_among some row) refl)
-      ∙ sym (λ i. count (λ other. shared_with row other (same_row row other) refl i) (different_rows all))
-      ∙ sym (count-filter (same_row row) (is_among some) (different_rows all))
+  same-distinct_rows : AreSame (distinct_rows some) (filter (is_among some) (distinct_rows all))
+  same-distinct_rows row =
+      sym (occurrences-count row (distinct_rows some)) ∙ once row some ∙ sym (of_some row (is_among some row) refl)
+      ∙ sym (λ i. count (λ other. shared_with row other (same_row row other) refl i) (distinct_rows all))
+      ∙ sym (count-filter (same_row row) (is_among some) (distinct_rows all))
 
   -- the different rows, counted among those of all
-  pub count-different_rows : (test : Test) → count test (different_rows some) ≡ count (λ row. is_among some row && test row) (different_rows all)
-  count-different_rows test = count-same (different_rows some) (filter (is_among some) (different_rows all)) same-different_rows test ∙ count-filter test (is_among some) (different_rows all)
+  pub count-distinct_rows : (test : Test) → count test (distinct_rows some) ≡ count (λ row. is_among some row && test row) (distinct_rows all)
+  count-distinct_rows test = count-same (distinct_rows some) (filter (is_among some) (distinct_rows all)) same-distinct_rows test ∙ count-filter test (is_among some) (distinct_rows all)

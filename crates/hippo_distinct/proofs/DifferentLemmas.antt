@@ -15,7 +15,7 @@ use Rattle.hippo_model.specs.declared.cells.Cell.{Cell}
 use Rattle.hippo_model.specs.declared.cells.Cell.TheVariants.{Shown, Denied}
 use Rattle.hippo_model.specs.Terms.{ShownRow}
 use Rattle.hippo_model.specs.Bags.{same_cell, same_row}
-use Rattle.hippo_model.specs.Forms.{different_rows}
+use Rattle.hippo_model.specs.Forms.{distinct_rows}
 use Rattle.hippo_model.proofs.SameRows.{same_cell-refl}
 use Rattle.hippo_tables_keyed.proofs.Orders.{same_exact}
 use Rattle.hippo_distinct.specs.DistinctRows.{stands_in}
@@ -30,12 +30,12 @@ new_after first row false true e = refl
 new_after first row true false e = rw e refl
 new_after first row false false e = rw e refl
 
-pub different_rows-push : (rows : List ShownRow) (row : ShownRow) → different_rows (rows ++ row ∷ []) ≡ different_rows rows ++ if_new (stands_in row rows) row
-different_rows-push [] row = refl
-different_rows-push (first ∷ rows) row =
-    ap (λ (rest : List ShownRow). first ∷ filter (λ other. not (same_row first other)) rest) (different_rows-push rows row)
-    ∙ ap (λ (rest : List ShownRow). first ∷ rest) (filter-append (λ other. not (same_row first other)) (different_rows rows) (if_new (stands_in row rows) row))
-    ∙ ap (λ (last : List ShownRow). first ∷ filter (λ other. not (same_row first other)) (different_rows rows) ++ last) (new_after first row (same_row first row) (stands_in row rows) refl)
+pub distinct_rows-push : (rows : List ShownRow) (row : ShownRow) → distinct_rows (rows ++ row ∷ []) ≡ distinct_rows rows ++ if_new (stands_in row rows) row
+distinct_rows-push [] row = refl
+distinct_rows-push (first ∷ rows) row =
+    ap (λ (rest : List ShownRow). first ∷ filter (λ other. not (same_row first other)) rest) (distinct_rows-push rows row)
+    ∙ ap (λ (rest : List ShownRow). first ∷ rest) (filter-append (λ other. not (same_row first other)) (distinct_rows rows) (if_new (stands_in row rows) row))
+    ∙ ap (λ (last : List ShownRow). first ∷ filter (λ other. not (same_row first other)) (distinct_rows rows) ++ last) (new_after first row (same_row first row) (stands_in row rows) refl)
 
 -- equal values are the same
 pub value_exact : (a b : Value) → same_cell (Shown a) (Shown b) ≡ true → a ≡ b
@@ -60,13 +60,13 @@ pub same_row-exact : (a b : ShownRow) → same_row a b ≡ true → a ≡ b
 same_row-exact a b same = (slice_eq-Decides (λ one other. (same_cell-exact one other, λ is. ap (same_cell one) (sym is) ∙ same_cell-refl one)) a b true (sym same)).0 refl
 
 -- the different rows of the beginning of a list come first
-pub different_rows-append : (more rows : List ShownRow) → (rest : List ShownRow) × (different_rows (rows ++ more) ≡ different_rows rows ++ rest)
-different_rows-append [] rows = ([], ap different_rows (append-nil rows) ∙ sym (append-nil (different_rows rows)))
-different_rows-append (row ∷ more) rows =
-    let later = different_rows-append more (rows ++ row ∷ []) in (
+pub distinct_rows-append : (more rows : List ShownRow) → (rest : List ShownRow) × (distinct_rows (rows ++ more) ≡ distinct_rows rows ++ rest)
+distinct_rows-append [] rows = ([], ap distinct_rows (append-nil rows) ∙ sym (append-nil (distinct_rows rows)))
+distinct_rows-append (row ∷ more) rows =
+    let later = distinct_rows-append more (rows ++ row ∷ []) in (
       if_new (stands_in row rows) row ++ later.0,
-      ap different_rows (sym (append_assoc rows (row ∷ []) more)) ∙ later.1 ∙ ap (λ (front : List ShownRow). front ++ later.0) (different_rows-push rows row)
-          ∙ append_assoc (different_rows rows) (if_new (stands_in row rows) row) later.0,
+      ap distinct_rows (sym (append_assoc rows (row ∷ []) more)) ∙ later.1 ∙ ap (λ (front : List ShownRow). front ++ later.0) (distinct_rows-push rows row)
+          ∙ append_assoc (distinct_rows rows) (if_new (stands_in row rows) row) later.0,
     )
 
 pub stands-push : (other row : ShownRow) (rows : List ShownRow) → stands_in other (rows ++ row ∷ []) ≡ (stands_in other rows || same_row row other)

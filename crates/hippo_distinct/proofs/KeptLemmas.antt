@@ -11,11 +11,11 @@ use Rattle.hippo_model.specs.declared.cells.Cell.{Cell}
 use Rattle.hippo_model.specs.declared.cells.Cell.TheVariants.{Shown, Denied}
 use Rattle.hippo_model.specs.Terms.{ShownRow}
 use Rattle.hippo_model.specs.Bags.{same_cell, same_row}
-use Rattle.hippo_model.specs.Forms.{different_rows}
+use Rattle.hippo_model.specs.Forms.{distinct_rows}
 use Rattle.hippo_model.specs.contracts.cells.CellPartialEq.TheImpl as derived
 use Rattle.hippo_model.proofs.SameRows.{same_row-refl}
 use Rattle.hippo_distinct.specs.DistinctRows.{stands_in}
-use Rattle.hippo_distinct.proofs.DifferentLemmas.{if_new, different_rows-push, same_row-exact}
+use Rattle.hippo_distinct.proofs.DifferentLemmas.{if_new, distinct_rows-push, same_row-exact}
 use Rattle.hippo_distinct.proofs.NeededRows.{all_different, not_all}
 
 pub same_row-sym : (a b : ShownRow) → same_row a b ≡ same_row b a
@@ -51,31 +51,31 @@ any-not-all : (test : ShownRow → Bool) (rows : List ShownRow) → list_any tes
 any-not-all test rows = sym (λ i. list_any (λ row. not_not (test row) i) rows) ∙ sym (not_all (λ row. not (test row)) rows)
 
 -- some of the different rows pass a test exactly when some of all rows do
-pub any-different_rows : (test : ShownRow → Bool) (rows : List ShownRow) → list_any test (different_rows rows) ≡ list_any test rows
-any-different_rows test rows = any-not-all test (different_rows rows) ∙ ap not (all_different (λ row. not (test row)) rows) ∙ sym (any-not-all test rows)
+pub any-distinct_rows : (test : ShownRow → Bool) (rows : List ShownRow) → list_any test (distinct_rows rows) ≡ list_any test rows
+any-distinct_rows test rows = any-not-all test (distinct_rows rows) ∙ ap not (all_different (λ row. not (test row)) rows) ∙ sym (any-not-all test rows)
 
 -- a row is among the different rows exactly when it is among all
-pub stands-different_rows : (row : ShownRow) (rows : List ShownRow) → stands_in row (different_rows rows) ≡ stands_in row rows
-stands-different_rows row rows = any-different_rows (λ other. same_row other row) rows
+pub stands-distinct_rows : (row : ShownRow) (rows : List ShownRow) → stands_in row (distinct_rows rows) ≡ stands_in row rows
+stands-distinct_rows row rows = any-distinct_rows (λ other. same_row other row) rows
 
 -- a set's lookup asks whether a row is among its own
 pub asks-stands_in : (row : ShownRow) (rows : List ShownRow) → list_any (row_eq row) rows ≡ stands_in row rows
 asks-stands_in row rows = λ i. list_any (λ other. (row_eq-same row other ∙ same_row-sym row other) i) rows
 
 -- the different rows with one more row are those with the row inserted
-pub put_in : (kept found : List ShownRow) (row : ShownRow) → kept ≡ different_rows found → insert_key row_eq kept row ≡ different_rows (found ++ row ∷ [])
+pub put_in : (kept found : List ShownRow) (row : ShownRow) → kept ≡ distinct_rows found → insert_key row_eq kept row ≡ distinct_rows (found ++ row ∷ [])
 put_in kept found row are =
     ap (λ (rows : List ShownRow). insert_key row_eq rows row) are
-    ∙ (λ i. cond ((asks-stands_in row (different_rows found) ∙ stands-different_rows row found) i) (different_rows found) (different_rows found ++ row ∷ []))
+    ∙ (λ i. cond ((asks-stands_in row (distinct_rows found) ∙ stands-distinct_rows row found) i) (distinct_rows found) (distinct_rows found ++ row ∷ []))
     ∙ by (stands_in row found)
-    ∙ sym (different_rows-push found row)
+    ∙ sym (distinct_rows-push found row)
   where
-    by : (stands : Bool) → cond stands (different_rows found) (different_rows found ++ row ∷ []) ≡ different_rows found ++ if_new stands row
-    by true = sym (append-nil (different_rows found))
+    by : (stands : Bool) → cond stands (distinct_rows found) (distinct_rows found ++ row ∷ []) ≡ distinct_rows found ++ if_new stands row
+    by true = sym (append-nil (distinct_rows found))
     by false = refl
 
 -- a row that is among them adds none
-pub there_already : (kept found : List ShownRow) (row : ShownRow) → kept ≡ different_rows found → list_any (row_eq row) kept ≡ true → kept ≡ different_rows (found ++ row ∷ [])
+pub there_already : (kept found : List ShownRow) (row : ShownRow) → kept ≡ distinct_rows found → list_any (row_eq row) kept ≡ true → kept ≡ distinct_rows (found ++ row ∷ [])
 there_already kept found row are there = sym (ap (λ (test : Bool). cond test kept (kept ++ row ∷ [])) there) ∙ put_in kept found row are
 
 any-at_place : (test : ShownRow → Bool) (rows : List ShownRow) (place : ℕ) (row : ShownRow) → slice_get rows place ≡ Some row → test row ≡ true → list_any test rows ≡ true
@@ -84,5 +84,5 @@ any-at_place test (first ∷ rows) zero row at passes = or_left (test first) (li
 any-at_place test (first ∷ rows) (suc place) row at passes = or_right (test first) (list_any test rows) (any-at_place test rows place row at passes)
 
 -- a row at some place adds none
-pub stands_at : (kept found : List ShownRow) (place : ℕ) (row : ShownRow) → kept ≡ different_rows found → slice_get kept place ≡ Some row → kept ≡ different_rows (found ++ row ∷ [])
+pub stands_at : (kept found : List ShownRow) (place : ℕ) (row : ShownRow) → kept ≡ distinct_rows found → slice_get kept place ≡ Some row → kept ≡ distinct_rows (found ++ row ∷ [])
 stands_at kept found place row are at = there_already kept found row are (any-at_place (row_eq row) kept place row at (row_eq-same row row ∙ same_row-refl row))

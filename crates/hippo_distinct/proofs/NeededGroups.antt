@@ -11,11 +11,11 @@ use Rattle.hippo_model.specs.declared.query.Out.TheVariants.{Column, Min, Max}
 use Rattle.hippo_model.specs.declared.query.Shape.{Shape}
 use Rattle.hippo_model.specs.Terms.{ShownRow}
 use Rattle.hippo_model.specs.Bags.{same_row, same_bag}
-use Rattle.hippo_model.specs.Forms.{value_in, different_rows, members, group_cell, grouped_rows}
+use Rattle.hippo_model.specs.Forms.{value_in, distinct_rows, members, group_cell, grouped_rows}
 use Rattle.hippo_model.proofs.SameRows.{same_row-refl}
 use Rattle.hippo_distinct.proofs.DifferentLemmas.{same_row-exact}
 use Rattle.hippo_distinct.proofs.NeededRows.{is_among, all_different, not_all, answered, left, alone, alone_is, left_within}
-use Rattle.hippo_distinct.proofs.BagLemmas.{Test, count, count-same, implied, same-from_bag, bag-from_same, count-map, count-agree, count-different_rows, all_implied, at_member, all_members}
+use Rattle.hippo_distinct.proofs.BagLemmas.{Test, count, count-same, implied, same-from_bag, bag-from_same, count-map, count-agree, count-distinct_rows, all_implied, at_member, all_members}
 use Rattle.hippo_distinct.proofs.BestValues.{below_for_min, below_for_max, lesser_is_lower, greater_is_lower, least_below, greatest_below}
 
 -- rows of keys, where more members give a lower row
@@ -27,24 +27,24 @@ module _ (below : ShownRow → ShownRow → Bool) (now before : ShownRow → Sho
   stays key = is_among some key && same_row (now key) (before key)
 
   abbrev rows_now : List ShownRow
-  rows_now = map now (different_rows some)
+  rows_now = map now (distinct_rows some)
 
   abbrev rows_before : List ShownRow
-  rows_before = map before (different_rows all)
+  rows_before = map before (distinct_rows all)
 
-  counts_now : (test : Test) → count test rows_now ≡ count (λ key. is_among some key && test (now key)) (different_rows all)
-  counts_now test = count-map test now (different_rows some) ∙ count-different_rows some all within (λ key. test (now key))
+  counts_now : (test : Test) → count test rows_now ≡ count (λ key. is_among some key && test (now key)) (distinct_rows all)
+  counts_now test = count-map test now (distinct_rows some) ∙ count-distinct_rows some all within (λ key. test (now key))
 
   -- the same number of rows are below one
-  stays-from_bag : same_bag rows_now rows_before ≡ true → list_all stays (different_rows all) ≡ true
-  stays-from_bag bag = all_members stays (different_rows all) each
+  stays-from_bag : same_bag rows_now rows_before ≡ true → list_all stays (distinct_rows all) ≡ true
+  stays-from_bag bag = all_members stays (distinct_rows all) each
     where
       below_it : ShownRow → Test
       below_it key row = below row (before key)
 
-      counts : (key : ShownRow) → count (λ other. is_among some other && below_it key (now other)) (different_rows all) ≡ count (λ other. below_it key (before other)) (different_rows all)
+      counts : (key : ShownRow) → count (λ other. is_among some other && below_it key (now other)) (distinct_rows all) ≡ count (λ other. below_it key (before other)) (distinct_rows all)
       counts key =
-          sym (counts_now (below_it key)) ∙ count-same_rows (below_it key) ∙ count-map (below_it key) before (different_rows all)
+          sym (counts_now (below_it key)) ∙ count-same_rows (below_it key) ∙ count-map (below_it key) before (distinct_rows all)
         where
           count-same_rows : (test : Test) → count test rows_now ≡ count test rows_before
           count-same_rows = count-same rows_now rows_before (same-from_bag rows_now rows_before bag)
@@ -56,18 +56,18 @@ module _ (below : ShownRow → ShownRow → Bool) (now before : ShownRow → Sho
       implied_there true p e both = both
       implied_there false p e both = absurd cc
 
-      each : (key : ShownRow) → is_among (different_rows all) key ≡ true → stays key ≡ true
+      each : (key : ShownRow) → is_among (distinct_rows all) key ≡ true → stays key ≡ true
       each key among =
-          let all_so = all_implied (λ other. is_among some other && below_it key (now other)) (λ other. below_it key (before other)) (falls key) (different_rows all) (counts key) in
-          let so = at_member (implied (λ other. is_among some other && below_it key (now other)) (λ other. below_it key (before other))) (different_rows all) all_so key among in
+          let all_so = all_implied (λ other. is_among some other && below_it key (now other)) (λ other. below_it key (before other)) (falls key) (distinct_rows all) (counts key) in
+          let so = at_member (implied (λ other. is_among some other && below_it key (now other)) (λ other. below_it key (before other))) (distinct_rows all) all_so key among in
           let both = and_parts (is_among some key) (below (now key) (before key)) (implied_there (below (before key) (before key)) (is_among some key && below (now key) (before key)) (itself key) so) in
           and_from _ _ both.0 (ap (λ (row : ShownRow). same_row row (before key)) (exact key both.1) ∙ same_row-refl (before key))
 
-  bag-from_stays : list_all stays (different_rows all) ≡ true → same_bag rows_now rows_before ≡ true
+  bag-from_stays : list_all stays (distinct_rows all) ≡ true → same_bag rows_now rows_before ≡ true
   bag-from_stays all_stay = bag-from_same rows_now rows_before (λ row.
       counts_now (same_row row)
-      ∙ count-agree (λ key. is_among some key && same_row row (now key)) (λ key. same_row row (before key)) stays (agree row) (different_rows all) all_stay
-      ∙ sym (count-map (same_row row) before (different_rows all)))
+      ∙ count-agree (λ key. is_among some key && same_row row (now key)) (λ key. same_row row (before key)) stays (agree row) (distinct_rows all) all_stay
+      ∙ sym (count-map (same_row row) before (distinct_rows all)))
     where
       agree : (row key : ShownRow) → stays key ≡ true → (is_among some key && same_row row (now key)) ≡ same_row row (before key)
       agree row key stay =
@@ -81,7 +81,7 @@ module _ (below : ShownRow → ShownRow → Bool) (now before : ShownRow → Sho
   -- the rows become another bag exactly when some key no longer exists, or has another row
   pub changes_of_keys : not (same_bag rows_now rows_before) ≡ list_any (λ key. not (is_among some key) || not (same_row (now key) (before key))) all
   changes_of_keys =
-      ap not (both_ways (same_bag rows_now rows_before) (list_all stays (different_rows all)) stays-from_bag bag-from_stays ∙ all_different stays all) ∙ not_all stays all
+      ap not (both_ways (same_bag rows_now rows_before) (list_all stays (distinct_rows all)) stays-from_bag bag-from_stays ∙ all_different stays all) ∙ not_all stays all
       ∙ λ i. list_any (λ key. not_stays (is_among some key) (same_row (now key) (before key)) i) all
 
 -- whether the least and the greatest values of a row are below those of another
@@ -214,11 +214,11 @@ module _ {C : Type 0} (row_of : C → ShownRow) (passes is_out : C → Bool) (sh
     abbrev changes : ShownRow → Bool
     changes key = list_all is_out (filter (is_of key) combinations) || not (same_row (row_now key) (row_before key))
 
-    grouped_before : grouped_rows shape (answered row_of passes is_out combinations) ≡ map row_before (different_rows (answered key_of passes is_out combinations))
-    grouped_before = λ i. map (λ key. map (group_cell key (members_are key combinations i)) shape.outs) (different_rows (keys_are combinations i))
+    grouped_before : grouped_rows shape (answered row_of passes is_out combinations) ≡ map row_before (distinct_rows (answered key_of passes is_out combinations))
+    grouped_before = λ i. map (λ key. map (group_cell key (members_are key combinations i)) shape.outs) (distinct_rows (keys_are combinations i))
 
-    grouped_now : grouped_rows shape (left row_of passes is_out combinations) ≡ map row_now (different_rows (left key_of passes is_out combinations))
-    grouped_now = λ i. map (λ key. map (group_cell key (members_left key combinations i)) shape.outs) (different_rows (keys_left combinations i))
+    grouped_now : grouped_rows shape (left row_of passes is_out combinations) ≡ map row_now (distinct_rows (left key_of passes is_out combinations))
+    grouped_now = λ i. map (λ key. map (group_cell key (members_left key combinations i)) shape.outs) (distinct_rows (keys_left combinations i))
 
     sinks : (key row : ShownRow) → below_row shape.outs (row_now key) row ≡ true → below_row shape.outs (row_before key) row ≡ true
     sinks key row under =

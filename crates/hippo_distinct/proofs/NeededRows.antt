@@ -7,7 +7,7 @@ use Rattle.std.proofs.lemmas.List.Sums.{sum_by-cons}
 use Rattle.std.proofs.lemmas.List.Folds.{list_all-append}
 use Rattle.hippo_model.specs.Terms.{ShownRow}
 use Rattle.hippo_model.specs.Bags.{same_row, occurrences, same_bag}
-use Rattle.hippo_model.specs.Forms.{different_rows}
+use Rattle.hippo_model.specs.Forms.{distinct_rows}
 use Rattle.hippo_model.proofs.SameRows.{same_row-refl}
 use Rattle.hippo_distinct.proofs.DifferentLemmas.{same_row-exact}
 
@@ -39,13 +39,13 @@ all_others p first passes [] = refl
 all_others p first passes (row ∷ rows) = one_dropped p first row (same_row first row) refl passes (others first rows) rows (all_others p first passes rows)
 
 -- the different rows pass a test exactly when all rows do
-pub all_different : (p : ShownRow → Bool) (rows : List ShownRow) → list_all p (different_rows rows) ≡ list_all p rows
+pub all_different : (p : ShownRow → Bool) (rows : List ShownRow) → list_all p (distinct_rows rows) ≡ list_all p rows
 all_different p [] = refl
 all_different p (first ∷ rows) = by (p first) refl ∙ ap (λ (rest : Bool). p first && rest) (all_different p rows)
   where
-    by : (passes : Bool) → p first ≡ passes → (p first && list_all p (others first (different_rows rows))) ≡ (p first && list_all p (different_rows rows))
-    by true passes = ap (λ (rest : Bool). p first && rest) (all_others p first passes (different_rows rows))
-    by false passes = ap (λ (test : Bool). test && list_all p (others first (different_rows rows))) passes ∙ sym (ap (λ (test : Bool). test && list_all p (different_rows rows)) passes)
+    by : (passes : Bool) → p first ≡ passes → (p first && list_all p (others first (distinct_rows rows))) ≡ (p first && list_all p (distinct_rows rows))
+    by true passes = ap (λ (rest : Bool). p first && rest) (all_others p first passes (distinct_rows rows))
+    by false passes = ap (λ (test : Bool). test && list_all p (others first (distinct_rows rows))) passes ∙ sym (ap (λ (test : Bool). test && list_all p (distinct_rows rows)) passes)
 
 pub counted : (row first : ShownRow) (rest : List ShownRow) → occurrences row (first ∷ rest) ≡ one_if (same_row row first) + occurrences row rest
 counted row first rest = sum_by-cons (λ other. cond (same_row row other) 1 0) first rest
@@ -72,17 +72,17 @@ as_often_in_others row first apart [] = refl
 as_often_in_others row first apart (one ∷ rows) = one_kept row first one (same_row first one) refl apart (others first rows) rows (as_often_in_others row first apart rows)
 
 -- a row is among the different rows once, or not at all
-pub once : (row : ShownRow) (rows : List ShownRow) → occurrences row (different_rows rows) ≡ one_if (is_among rows row)
+pub once : (row : ShownRow) (rows : List ShownRow) → occurrences row (distinct_rows rows) ≡ one_if (is_among rows row)
 once row [] = refl
-once row (first ∷ rows) = counted row first (others first (different_rows rows)) ∙ by (same_row row first) refl (once row rows)
+once row (first ∷ rows) = counted row first (others first (distinct_rows rows)) ∙ by (same_row row first) refl (once row rows)
   where
-    by : (same : Bool) → same_row row first ≡ same → occurrences row (different_rows rows) ≡ one_if (is_among rows row)
-        → one_if (same_row row first) + occurrences row (others first (different_rows rows)) ≡ one_if (same_row row first || is_among rows row)
+    by : (same : Bool) → same_row row first ≡ same → occurrences row (distinct_rows rows) ≡ one_if (is_among rows row)
+        → one_if (same_row row first) + occurrences row (others first (distinct_rows rows)) ≡ one_if (same_row row first || is_among rows row)
     by true same rest =
-        let none : occurrences row (others first (different_rows rows)) ≡ 0 = ap (λ (one : ShownRow). occurrences row (others one (different_rows rows))) (sym (same_row-exact row first same)) ∙ none_of_others row (different_rows rows) in
+        let none : occurrences row (others first (distinct_rows rows)) ≡ 0 = ap (λ (one : ShownRow). occurrences row (others one (distinct_rows rows))) (sym (same_row-exact row first same)) ∙ none_of_others row (distinct_rows rows) in
         (λ i. one_if (same i) + none i) ∙ sym (ap (λ (test : Bool). one_if (test || is_among rows row)) same)
     by false same rest =
-        (λ i. one_if (same i) + (as_often_in_others row first same (different_rows rows) ∙ rest) i) ∙ zero-add (one_if (is_among rows row)) ∙ sym (ap (λ (test : Bool). one_if (test || is_among rows row)) same)
+        (λ i. one_if (same i) + (as_often_in_others row first same (distinct_rows rows) ∙ rest) i) ∙ zero-add (one_if (is_among rows row)) ∙ sym (ap (λ (test : Bool). one_if (test || is_among rows row)) same)
 
 -- each row is among all
 all_among : (rows : List ShownRow) → list_all (is_among rows) rows ≡ true
@@ -106,10 +106,10 @@ as_often_within some all (row ∷ rows) among =
     λ i. bit_of_true (is_among some row) (is_among all row) both.0 i && as_often_within some all rows both.1 i
 
 -- the different rows of some and of all are one bag exactly when each of all is among some
-same_where_all_are_left : (some all : List ShownRow) → list_all (is_among all) some ≡ true → same_bag (different_rows some) (different_rows all) ≡ list_all (is_among some) all
+same_where_all_are_left : (some all : List ShownRow) → list_all (is_among all) some ≡ true → same_bag (distinct_rows some) (distinct_rows all) ≡ list_all (is_among some) all
 same_where_all_are_left some all within =
-    (λ i. list_all (λ row. once row some i == once row all i) (different_rows some ++ different_rows all))
-    ∙ list_all-append (as_often some all) (different_rows some) (different_rows all)
+    (λ i. list_all (λ row. once row some i == once row all i) (distinct_rows some ++ distinct_rows all))
+    ∙ list_all-append (as_often some all) (distinct_rows some) (distinct_rows all)
     ∙ (λ i. all_different (as_often some all) some i && all_different (as_often some all) all i)
     ∙ (λ i. as_often_within some all some within i && as_often_within some all all (all_among all) i)
     ∙ ap (λ (test : Bool). test && list_all (is_among some) all) (all_among some)
@@ -177,7 +177,7 @@ module _ {C : Type 0} (row_of : C → ShownRow) (passes is_out : C → Bool) whe
 
   -- the different rows become another bag exactly when some row comes only from removed
   -- combinations
-  pub needs_what_comes_alone : (combinations : List C) → not (same_bag (different_rows (left combinations)) (different_rows (answered combinations))) ≡ list_any (alone combinations) (answered combinations)
+  pub needs_what_comes_alone : (combinations : List C) → not (same_bag (distinct_rows (left combinations)) (distinct_rows (answered combinations))) ≡ list_any (alone combinations) (answered combinations)
   needs_what_comes_alone combinations =
       ap not (same_where_all_are_left (left combinations) (answered combinations) (left_within combinations))
       ∙ not_all (is_among (left combinations)) (answered combinations)

@@ -2,7 +2,7 @@
 //! combinations.
 ghost use Rattle.std.specs.Prelude.{◌≡◌, [], ◌∷◌, ◌++◌, List, map, IsTrue, IfOk, OnOk};
 ghost use Rattle.hippo_model.specs.Terms.{ShownRow};
-ghost use Rattle.hippo_model.specs.Forms.{different_rows};
+ghost use Rattle.hippo_model.specs.Forms.{distinct_rows};
 ghost use Rattle.hippo_model.specs.Masking.{masked_answer, masked_cell};
 ghost use Rattle.hippo_eval.specs.Answering.{IsAnswered};
 ghost use Rattle.hippo_eval.specs.Walks.{rows_of};
@@ -34,8 +34,8 @@ impl DifferentRows {
     // Whether the row that a combination makes is at its guessed place.
     #[inline(always)]
     fn is_guessed<C: ChoiceView>(&self, items: &[Expr], combo: &Combo<'_>, choices: &C) -> bool
-        ensures { (found : List ShownRow) → self.now.rows.keys ≡ different_rows found
-            → IsTrue result → self.now.rows.keys ≡ different_rows
+        ensures { (found : List ShownRow) → self.now.rows.keys ≡ distinct_rows found
+            → IsTrue result → self.now.rows.keys ≡ distinct_rows
             (found ++ map (masked_cell (C.choices choices.now) combo.now) items.now ∷ []) }
     {
         let Some(mark) = mark_of(items, combo, choices) else {
@@ -61,8 +61,8 @@ impl DifferentRows {
 
     // Inserts the row at hand without a lookup before. A new row is moved into the set, not copied.
     fn put(&mut self, alloc: Global) -> Result<(), Memory>
-        ensures { (found : List ShownRow) → self.old.rows.keys ≡ different_rows found
-            → OnOk result (self.new.rows.keys ≡ different_rows (found ++ self.old.at_hand ∷ [])) }
+        ensures { (found : List ShownRow) → self.old.rows.keys ≡ distinct_rows found
+            → OnOk result (self.new.rows.keys ≡ distinct_rows (found ++ self.old.at_hand ∷ [])) }
     {
         self.expect_last(alloc)?;
         let next = Sequence::with_capacity(alloc, self.at_hand.len())?;
@@ -72,8 +72,8 @@ impl DifferentRows {
 
     // Inserts the row at hand if it is new. It is then moved into the set, not copied.
     fn add(&mut self, alloc: Global) -> Result<(), Memory>
-        ensures { (found : List ShownRow) → self.old.rows.keys ≡ different_rows found
-            → OnOk result (self.new.rows.keys ≡ different_rows (found ++ self.old.at_hand ∷ [])) }
+        ensures { (found : List ShownRow) → self.old.rows.keys ≡ distinct_rows found
+            → OnOk result (self.new.rows.keys ≡ distinct_rows (found ++ self.old.at_hand ∷ [])) }
     {
         if self.expects_new {
             return self.put(alloc);
@@ -99,13 +99,13 @@ struct Different;
 
 impl Gatherer for Different {
     ghost use Rattle.std.specs.Prelude.{◌≡◌};
-    ghost use Rattle.hippo_model.specs.Forms.{different_rows};
+    ghost use Rattle.hippo_model.specs.Forms.{distinct_rows};
 
     type Rows = DifferentRows;
 
-    ghost Holds = { λ gatherer found kept. kept.rows.keys ≡ different_rows found };
+    ghost Holds = { λ gatherer found kept. kept.rows.keys ≡ distinct_rows found };
 
-    ghost answer = { λ gatherer found. different_rows found };
+    ghost answer = { λ gatherer found. distinct_rows found };
 
     fn start(&self, alloc: Global) -> DifferentRows {
         DifferentRows {
@@ -153,7 +153,7 @@ pub fn distinct<C: ChoiceView>(
     choices: &C,
 ) -> Result<Answer, EvalFault>
     ensures { let rows = masked_answer (C.choices choices.now) query.now (rows_of sets.now) in
-        IsAnswered ANSWER_LIMIT (different_rows rows) result }
+        IsAnswered ANSWER_LIMIT (distinct_rows rows) result }
 {
     gather_joined(alloc, query, sets, choices, &Different, ANSWER_LIMIT)
 }

@@ -8,7 +8,7 @@ use Rattle.hippo_model.specs.StoredForms.{stored}
 use Rattle.hippo_model.specs.Terms.{History}
 use Rattle.hippo_keeper.specs.Keeping.{KeeperState, KeepsSame}
 use Rattle.hippo_replay.specs.Recording.{IsBacked, HasKept, KeepsEntry}
-use Rattle.hippo_replay.specs.Standing.{StandsFor, IsSound, IsTimely}
+use Rattle.hippo_replay.specs.Standing.{Represents, IsSound, IsTimely}
 use Rattle.hippo_replay.specs.declared.state.State.{State}
 use Rattle.hippo_keeper.specs.declared.faults.KeeperFault.TheVariants.{Failed}
 use Rattle.hippo_keeper.proofs.CallLemmas.{KeepsSame-here, IsAfterCall-none, IsAfterCall-as}
@@ -25,7 +25,7 @@ use Rattle.hippo_report.specs.declared.format.Format.{Format}
 use Rattle.hippo_values.specs.declared.moments.Moment.{Moment}
 use Rattle.hippo_engine_world.specs.Holding.{world_of, JobsFit, WatchesFit}
 use Rattle.hippo_engine_world.proofs.AuditLemmas.{JobsFit-opening, WatchesFit-opening, JobsFit-same, WatchesFit-same, tallies_of-same}
-use Rattle.hippo_stmt_lines.specs.Commands.{Command, nothing, wrong, make_request, make_statement, who_commands, may_want, IsCommand}
+use Rattle.hippo_stmt_lines.specs.Commands.{Command, nothing, wrong, make_request, make_statement, who_commands, may_run_out_of_memory, IsCommand}
 use Rattle.hippo_stmt_lines.specs.Commands as commands
 use Rattle.hippo_engine.specs.declared.engine.Engine.{Engine}
 use Rattle.hippo_engine_rules.specs.declared.faults.EngineFault.{EngineFault}
@@ -55,10 +55,10 @@ IsTimely-begun engine limit format opens =
 
 -- an engine with the state of a history that is kept holds it when a run begins
 pub Holds-opening : (history : History) (held : State) (engine : Engine) (keeper : KeeperState) (clock : Moment) (limit : ℕ) (format : Format) → engine.state ≡ held
-    → StandsFor held history → map stored history ≡ keeper.kept → world_of engine.world ≡ opening clock limit format → Holds history engine keeper
+    → Represents held history → map stored history ≡ keeper.kept → world_of engine.world ≡ opening clock limit format → Holds history engine keeper
 Holds-opening history held engine keeper clock limit format same stands forms opens = record {
   forms = forms;
-  stands = subst (λ (state : State). StandsFor state history) (sym same) stands;
+  stands = subst (λ (state : State). Represents state history) (sym same) stands;
   jobs = JobsFit-opening engine.world clock limit format opens history;
   watches = WatchesFit-opening engine.world clock limit format opens history;
 }
@@ -75,7 +75,7 @@ AddsNothing-quiet command old new quiet = record {
 
 -- nothing was added
 pub Holds-same : (history : History) (old new : Engine) (before after : KeeperState) → Holds history old before
-    → StandsFor new.state history → JobsFit history new.world → WatchesFit history new.world → KeepsSame before after
+    → Represents new.state history → JobsFit history new.world → WatchesFit history new.world → KeepsSame before after
     → Holds (history ++ []) new after
 Holds-same history old new before after holds stands jobs watches keeps =
     subst (λ (h : History). Holds h new after) (sym (append-nil history))
@@ -83,7 +83,7 @@ Holds-same history old new before after holds stands jobs watches keeps =
 
 -- an entry was added
 pub Holds-more : (history : History) (entry : Entry) (old new : Engine) (before after : KeeperState) → Holds history old before
-    → StandsFor new.state (history ++ entry ∷ []) → JobsFit (history ++ entry ∷ []) new.world → WatchesFit (history ++ entry ∷ []) new.world
+    → Represents new.state (history ++ entry ∷ []) → JobsFit (history ++ entry ∷ []) new.world → WatchesFit (history ++ entry ∷ []) new.world
     → HasKept (entry ∷ []) before after → Holds (history ++ entry ∷ []) new after
 Holds-more history entry old new before after holds stands jobs watches kept = record {
   forms = map-append stored history (entry ∷ []) ∙ ap (λ front. front ++ stored entry ∷ []) holds.forms ∙ sym kept.0;
@@ -117,7 +117,7 @@ Carries-nothing command old new keeper steps at_work quiet = record {
     is = quiet.effect history holds.stands;
     reply = refl;
     world = refl;
-    holds = Holds-same history old new keeper keeper holds (subst (λ (held : State). StandsFor held history) (sym quiet.same) holds.stands)
+    holds = Holds-same history old new keeper keeper holds (subst (λ (held : State). Represents held history) (sym quiet.same) holds.stands)
         (quiet.jobs history holds.stands holds.jobs) (quiet.watches history holds.stands holds.watches) (KeepsSame-here keeper);
     kept = KeepsSame-here keeper;
     counts = quiet.counts _ steps;
@@ -199,7 +199,7 @@ Carries-written command (Err Write) old new before after steps steps' done carri
 }
 
 -- a command that may be out of memory when it is read takes memory, and a line may give that refusal
-wanting : (command : Command) → may_want command ≡ true → (may_do_nothing command ≡ true) × IsOfLine (wrong (who_commands command) Memory)
+wanting : (command : Command) → may_run_out_of_memory command ≡ true → (may_do_nothing command ≡ true) × IsOfLine (wrong (who_commands command) Memory)
 wanting nothing wants = absurd (false≢true wants)
 wanting (wrong Nobody refusal) wants = absurd (false≢true wants)
 wanting (wrong Console refusal) wants = (refl, tt)
@@ -224,7 +224,7 @@ IsOfLine-found command found of_line (inr (wants, is)) = subst IsOfLine (sym is)
 
 -- an entry that is not kept, since the keeper failed
 pub Carries-unkept : {A : Type 0} (command : Command) (entry : Entry) (old new : Engine) (before after : KeeperState) (steps : ℕ)
-    → ((history : History) → StandsFor old.state history → (effect_of history (world_of old.world) command).added ≡ entry ∷ [])
+    → ((history : History) → Represents old.state history → (effect_of history (world_of old.world) command).added ≡ entry ∷ [])
     → KeepsEntry entry (err_of A Failed) old.state before after → Carries command (err_of (Unit {0}) Keeper) old new before after steps steps
 Carries-unkept {A} command entry old new before after steps adds keeps = record {
   call = IsAfterCall-as true false (err_of A Failed) (err_of (Unit {0}) Failed) before after refl keeps.call;

@@ -12,7 +12,7 @@ use Rattle.hippo_typing.specs.Meanings.{meaning}
 use Rattle.hippo_keeper.specs.declared.faults.KeeperFault.{KeeperFault}
 use Rattle.hippo_keeper.specs.declared.faults.KeeperFault.TheVariants.{Failed, Memory}
 use Rattle.hippo_keeper.specs.Keeping.{KeeperState}
-use Rattle.hippo_replay.specs.Standing.{StandsFor, MayFollow, IsSound, IsTimely}
+use Rattle.hippo_replay.specs.Standing.{Represents, MayFollow, IsSound, IsTimely}
 use Rattle.hippo_replay.specs.Recording.{Records}
 use Rattle.hippo_replay.proofs.StateLemmas.{latest_moment-append}
 use Rattle.hippo_keeper.proofs.CallLemmas.{IsAfterCall-as}
@@ -74,7 +74,7 @@ changes_by command entry engine is = record {
 
 module _ (command : Command) (entry : Entry) (old new : Engine) (before after : KeeperState) (steps : ℕ) (changes : Changes command entry old) (at_work : AtWork old before) where
   -- an entry that was added has the clock's moment
-  timely_more : ((history : History) → StandsFor old.state history → StandsFor new.state (history ++ entry ∷ [])) → world_of new.world ≡ world_of old.world → IsTimely new.state new.world.clock
+  timely_more : ((history : History) → Represents old.state history → Represents new.state (history ++ entry ∷ [])) → world_of new.world ≡ world_of old.world → IsTimely new.state new.world.clock
   timely_more added world_is =
       let history = at_work.sound.history in
       let stands = at_work.sound.stands in
@@ -84,14 +84,14 @@ module _ (command : Command) (entry : Entry) (old new : Engine) (before after : 
       same ∙ int_le-refl old.world.clock
 
   -- the last entry is the same, if none was added
-  timely_same : ((history : History) → StandsFor old.state history → StandsFor new.state history) → world_of new.world ≡ world_of old.world → IsTimely new.state new.world.clock
+  timely_same : ((history : History) → Represents old.state history → Represents new.state history) → world_of new.world ≡ world_of old.world → IsTimely new.state new.world.clock
   timely_same stays world_is =
       let last : new.state.last ≡ old.state.last = (stays at_work.sound.history at_work.sound.stands).last ∙ sym at_work.sound.stands.last in
       let same : int_le new.state.last new.world.clock ≡ int_le old.state.last old.world.clock = λ i. int_le (last i) (world_is i).clock in
       same ∙ at_work.timely
 
   -- the entry comes next in the history
-  comes_next : entry.seq < 2 ^ 63 → MayFollow old.state entry → (history : History) → StandsFor old.state history → (tables : Tables) → TablesStandFor tables history → ComesNext tables history entry
+  comes_next : entry.seq < 2 ^ 63 → MayFollow old.state entry → (history : History) → Represents old.state history → (tables : Tables) → TablesStandFor tables history → ComesNext tables history entry
   comes_next number follows history stands tables there =
       let seq = ap (λ (e : Entry). e.seq) (changes.next history stands) in
       record {

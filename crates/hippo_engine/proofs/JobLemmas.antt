@@ -10,7 +10,7 @@ use Rattle.hippo_stmt_lines.specs.Commands.{Command, make_request}
 use Rattle.hippo_typing_laws.proofs.RefusalLemmas.{mapped}
 use Rattle.hippo_audit_job.specs.Examining.{IsAuditOf}
 use Rattle.hippo_audit_job.specs.Jobs.{OpenAudit, open_audit}
-use Rattle.hippo_replay.specs.Standing.{StandsFor}
+use Rattle.hippo_replay.specs.Standing.{Represents}
 use Rattle.hippo_report.specs.declared.speaker.Speaker.TheVariants.{Console}
 use Rattle.hippo_report.specs.declared.refusal.Refusal.TheVariants as refusals
 use Rattle.hippo_report.specs.Notices.{done_line, number_line}
@@ -22,7 +22,7 @@ use Rattle.hippo_engine_sessions.specs.Worlds.{at_number, with_at, free_number}
 use Rattle.hippo_engine_sessions.proofs.HeldLemmas.{seen-at, seen-with, seen-free}
 use Rattle.hippo_engine_world.proofs.AuditLemmas.{all_with, IsLooking-begun, tally-begun}
 use Rattle.hippo_engine.specs.declared.engine.Engine.{Engine}
-use Rattle.hippo_engine_checks.specs.Checks.{StandsJob}
+use Rattle.hippo_engine_checks.specs.Checks.{HasJob}
 use Rattle.hippo_engine.specs.Carrying.{shown_effect, AddsNothing}
 use Rattle.hippo_engine_checks.specs.Deeds as deeds
 use Rattle.hippo_engine_rules.specs.Effects.{only_reply, with_job, new_open_audit}
@@ -51,7 +51,7 @@ tallies_put jobs number job jobs' is = ap job_tallies is ∙ seen-with job_tally
 -- ---- a job begins
 module _ (command : Command) (number : ℕ) (audit : Audit) (old new : Engine) (begins : begins_job command ≡ true)
     (does : IsJudged command old.state (world_of old.world) (Ok (deeds.begin_audit number audit)))
-    (audit_is : (history : History) → StandsFor old.state history → IsAuditOf history audit) where
+    (audit_is : (history : History) → Represents old.state history → IsAuditOf history audit) where
   pub AddsNothing-begun : free_number old.world.jobs ≡ Some number → BeginsAt number audit old new → AddsNothing command old new
   AddsNothing-begun is begun = record {
     same = begun.state;
@@ -68,13 +68,13 @@ module _ (command : Command) (number : ℕ) (audit : Audit) (old new : Engine) (
       jobs_are : new.world.jobs ≡ with_at old.world.jobs number (Some begun.job)
       jobs_are = ap (λ (held : HeldWorld). held.jobs) begun.world
 
-      begun_over : (history : History) → StandsFor old.state history → HasBegun audit (length history) begun.job
+      begun_over : (history : History) → Represents old.state history → HasBegun audit (length history) begun.job
       begun_over history stands = subst (λ (count : ℕ). HasBegun audit count begun.job) stands.count begun.begun
 
-      job_is : (history : History) → StandsFor old.state history → open_audit begun.job ≡ new_open_audit history audit
+      job_is : (history : History) → Represents old.state history → open_audit begun.job ≡ new_open_audit history audit
       job_is history stands = ap (λ (job : HeldJob). open_audit job) (begun_over history stands).is
 
-      effect_is : (history : History) → StandsFor old.state history
+      effect_is : (history : History) → Represents old.state history
           → shown_effect new ≡ only_reply (with_job (world_of old.world) number (Some (new_open_audit history audit))) (number_line 0 (codes "job") number)
       effect_is history stands =
           let worlds : world_of new.world ≡ with_job (world_of old.world) number (Some (new_open_audit history audit)) =
@@ -112,7 +112,7 @@ module _ (number : ℕ) (old new : Engine) where
           λ i. only_reply (worlds i) (said i)
 
 -- a job that the world shows at a number is held there
-pub job_held : (held : HeldWorld) (number : ℕ) → StandsJob (world_of held) number → (job : HeldJob) × (at_number held.jobs number ≡ Some job)
+pub job_held : (held : HeldWorld) (number : ℕ) → HasJob (world_of held) number → (job : HeldJob) × (at_number held.jobs number ≡ Some job)
 job_held held number there =
     let seen = mapped open_audit (at_number held.jobs number) there.0 (sym (seen-at open_audit held.jobs number) ∙ there.1) in
     (seen.from, seen.is)

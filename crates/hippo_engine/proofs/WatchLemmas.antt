@@ -8,7 +8,7 @@ use Rattle.hippo_tables.specs.Standing.{TablesStandFor}
 use Rattle.hippo_watch_counts.specs.declared.counts.AuditHits.{AuditHits}
 use Rattle.hippo_watch_counts.specs.Counts.{AreHits}
 use Rattle.hippo_watch.specs.Watches.{IsWatchOf}
-use Rattle.hippo_replay.specs.Standing.{StandsFor}
+use Rattle.hippo_replay.specs.Standing.{Represents}
 use Rattle.hippo_report.specs.declared.speaker.Speaker.TheVariants.{Console}
 use Rattle.hippo_report.specs.Notices.{done_line, number_line}
 use Rattle.hippo_report.specs.declared.refusal.Refusal.TheVariants.{Memory}
@@ -41,7 +41,7 @@ world_with held number watch new is =
 -- a watch is set at a number, or ended
 module _ (command : Command) (deed : Deed) (number : ℕ) (held : Option AuditHits) (old new : Engine) (same : new.state ≡ old.state) (does : IsJudged command old.state (world_of old.world) (Ok deed)) where
   pub puts_watch : new.world ≡ record old.world { watches = with_at old.world.watches number held }
-      → ((history : History) → StandsFor old.state history → IfSome held (IsWatchOf history))
+      → ((history : History) → Represents old.state history → IfSome held (IsWatchOf history))
       → ((history : History) → shown_effect new ≡ deed_effect history (world_of old.world) deed) → AddsNothing command old new
   puts_watch world_is fits shows = record {
     same = same;

@@ -11,7 +11,7 @@ use Rattle.hippo_keeper.specs.declared.faults.KeeperFault.TheVariants.{Failed}
 use Rattle.hippo_keeper.specs.Answering.{has_failed}
 use Rattle.hippo_keeper.specs.Keeping.{KeeperState, IsReady, IsAfterCall, MayHaveOneMore, KeepsSame}
 use Rattle.hippo_typing.specs.Meanings.{meaning}
-use Rattle.hippo_replay.specs.Standing.{StandsFor, IsSound, IsTimely}
+use Rattle.hippo_replay.specs.Standing.{Represents, IsSound, IsTimely}
 use Rattle.hippo_replay.specs.Recording.{HasKept}
 use Rattle.hippo_report.specs.declared.refusal.Refusal.{Refusal}
 use Rattle.hippo_report.specs.declared.refusal.Refusal.TheVariants.{NoSuchQuery}
@@ -27,7 +27,7 @@ use Rattle.hippo_engine_rules.specs.Ledgers.{reads_kept, Tallies}
 -- the keeper keeps this history, and the engine holds its state
 pub record Holds (history : History) (engine : Engine) (keeper : KeeperState) : Type 0 where
   pub forms : map stored history ≡ keeper.kept
-  pub stands : StandsFor engine.state history
+  pub stands : Represents engine.state history
   pub jobs : JobsFit history engine.world
   pub watches : WatchesFit history engine.world
 
@@ -67,7 +67,7 @@ shown_effect engine = only_reply (world_of engine.world) engine.reply
 -- the state represents; jobs and watches do not change
 pub record IsQuiet (command : Command) (old new : Engine) : Type 0 where
   pub same : new.state ≡ old.state
-  pub effect : (history : History) → StandsFor old.state history
+  pub effect : (history : History) → Represents old.state history
       → IsEffect history (world_of old.world) command (shown_effect new)
   pub audits : KeepsAudits old.world new.world
 
@@ -75,11 +75,11 @@ pub record IsQuiet (command : Command) (old new : Engine) : Type 0 where
 -- taken
 pub record AddsNothing (command : Command) (old new : Engine) : Type 0 where
   pub same : new.state ≡ old.state
-  pub effect : (history : History) → StandsFor old.state history
+  pub effect : (history : History) → Represents old.state history
       → IsEffect history (world_of old.world) command (shown_effect new)
-  pub jobs : (history : History) → StandsFor old.state history → JobsFit history old.world
+  pub jobs : (history : History) → Represents old.state history → JobsFit history old.world
       → JobsFit history new.world
-  pub watches : (history : History) → StandsFor old.state history → WatchesFit history old.world
+  pub watches : (history : History) → Represents old.state history → WatchesFit history old.world
       → WatchesFit history new.world
   pub counts : (versions steps : ℕ)
       → Tallies command new.reply versions steps steps (tallies_of old.world)

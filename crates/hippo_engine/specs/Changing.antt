@@ -2,7 +2,7 @@
 use Rattle.std.specs.Prelude.{◌≡◌, [], ◌∷◌, true, codes}
 use Rattle.hippo_model.specs.declared.entry.Entry.{Entry}
 use Rattle.hippo_model.specs.Terms.{History}
-use Rattle.hippo_replay.specs.Standing.{StandsFor}
+use Rattle.hippo_replay.specs.Standing.{Represents}
 use Rattle.hippo_report.specs.declared.speaker.Speaker.TheVariants.{Console}
 use Rattle.hippo_report.specs.Notices.{number_line}
 use Rattle.hippo_engine_sessions.specs.Worlds.{World}
@@ -23,8 +23,8 @@ change_effect world entry =
 pub record Changes (command : Command) (entry : Entry) (engine : Engine) : Type 0 where
   pub who : who_commands command ≡ Console
   pub memory : may_do_nothing command ≡ true
-  pub adds : (history : History) → StandsFor engine.state history
+  pub adds : (history : History) → Represents engine.state history
       → effect_of history (world_of engine.world) command
       ≡ change_effect (world_of engine.world) entry
-  pub next : (history : History) → StandsFor engine.state history
+  pub next : (history : History) → Represents engine.state history
       → entry ≡ next_entry history (world_of engine.world) entry.act

@@ -5,7 +5,7 @@ ghost use Rattle.hippo_stmt_lines.specs.Forms as requests;
 ghost use Rattle.hippo_report.specs.declared.speaker.Speaker.TheVariants.{Console};
 ghost use Rattle.hippo_stmt_lines.specs.Commands.{make_request};
 ghost use Rattle.hippo_engine_world.specs.Holding.{world_of};
-ghost use Rattle.hippo_engine_checks.specs.Checks.{StandsJob};
+ghost use Rattle.hippo_engine_checks.specs.Checks.{HasJob};
 ghost use Rattle.hippo_engine.specs.Carrying.{AddsNothing};
 ghost use Rattle.hippo_engine.specs.Jobs.{BeginsAt};
 
@@ -29,7 +29,7 @@ impl Engine {
 
     /// Drops the job at a number. Takes no memory.
     pub fn drop_job(&mut self, number: u8)
-        requires there { StandsJob (world_of self.old.world) number }
+        requires there { HasJob (world_of self.old.world) number }
         ensures { AddsNothing (make_request Console (requests.drops number)) self.old self.new }
     {
         self.world.jobs.put(usize::from(number), None);

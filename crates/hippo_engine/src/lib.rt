@@ -5,7 +5,7 @@
 mod changes;
 mod engine;
 mod jobs;
-mod plain;
+mod reply_writing;
 mod sessions;
 mod watches;
 

@@ -6,7 +6,7 @@ ghost use Rattle.hippo_engine_checks.specs.Findings.{Does};
 ghost use Rattle.hippo_engine.specs.Carrying.{IsQuiet};
 
 use crate::engine::Engine;
-use hippo_engine_rules::{refuse_for_memory, say_done};
+use hippo_engine_rules::{refuse_out_of_memory, say_done};
 use hippo_model::Pair;
 use hippo_report::Speaker;
 use hippo_values::{Memory, Moment, Name};
@@ -40,7 +40,7 @@ impl Engine {
     {
         match self.world.log_in(alloc, session, user, pair) {
             Ok(()) => say_done(Speaker::Session(session), &mut self.reply),
-            Err(Memory) => refuse_for_memory(Speaker::Session(session), &mut self.reply),
+            Err(Memory) => refuse_out_of_memory(Speaker::Session(session), &mut self.reply),
         }
     }
 

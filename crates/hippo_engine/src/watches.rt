@@ -8,7 +8,7 @@ ghost use Rattle.hippo_engine_checks.specs.Findings.{Does};
 ghost use Rattle.hippo_engine.specs.Carrying.{AddsNothing};
 
 use crate::engine::Engine;
-use hippo_engine_rules::{refuse_for_memory, say_done, say_number};
+use hippo_engine_rules::{refuse_out_of_memory, say_done, say_number};
 use hippo_model::Audit;
 use hippo_report::Speaker;
 use hippo_values::Memory;
@@ -28,7 +28,7 @@ impl Engine {
                 self.world.watches.put(number, Some(watch));
                 say_number(0, "watch", number as u64, &mut self.reply);
             }
-            Err(Memory) => refuse_for_memory(Speaker::Console, &mut self.reply),
+            Err(Memory) => refuse_out_of_memory(Speaker::Console, &mut self.reply),
         }
     }
 

@@ -23,7 +23,7 @@ use Rattle.hippo_watch.specs.Alarms.{IsPresentOf, asked_next, IsAskedNext}
 use Rattle.hippo_watch.specs.Watches.{SharesWatched}
 use Rattle.hippo_report_flags.specs.AlarmLines.{alarm_text}
 use Rattle.hippo_replay.specs.declared.state.State.{State}
-use Rattle.hippo_replay.specs.Standing.{StandsFor}
+use Rattle.hippo_replay.specs.Standing.{Represents}
 use Rattle.hippo_engine_world.specs.declared.worlds.World.{World as HeldWorld}
 use Rattle.hippo_engine_sessions.specs.Worlds.{World}
 use Rattle.hippo_engine_world.specs.Holding.{world_of, WatchesFit}
@@ -60,17 +60,17 @@ module _ (asked : AskedNow) where
 
 -- ---- all watches of a world
 -- the meaning of a text by the names of a state is its meaning after the history
-pub means_then : (held : State) (history : History) (text : Txt) (found : Option Query) → StandsFor held history → found ≡ meaning_in held.catalog.names text → meaning history text ≡ found
+pub means_then : (held : State) (history : History) (text : Txt) (found : Option Query) → Represents held history → found ≡ meaning_in held.catalog.names text → meaning history text ≡ found
 means_then held history text found stands is = sym (is ∙ ap (λ (known : KnownNames). meaning_in known text) stands.names)
 
 abbrev AddsNow : AskedNow → State → HeldWorld → Txt → Txt → Type 0
 AddsNow asked kept held old new =
-    (history : History) (question : Question) → StandsFor kept history → WatchesFit history held → question.pair ≡ asked.pair.now → meaning history question.text ≡ Some asked.query.now
+    (history : History) (question : Question) → Represents kept history → WatchesFit history held → question.pair ≡ asked.pair.now → meaning history question.text ≡ Some asked.query.now
     → new ≡ old ++ alarms_now history (world_of held) question
 
 -- the past and the tables of the question are those of a state
 abbrev IsPresent : AskedNow → State → Type 0
-IsPresent asked kept = (history : History) → StandsFor kept history → IsPresentOf asked.past asked.tables.now history
+IsPresent asked kept = (history : History) → Represents kept history → IsPresentOf asked.past asked.tables.now history
 
 adds_now : (asked : AskedNow) (kept : State) (held : HeldWorld) (old new : Txt) → IsPresent asked kept → asked.moment ≡ held.clock
     → AddsAlarms asked held.watches old new → AddsNow asked kept held old new

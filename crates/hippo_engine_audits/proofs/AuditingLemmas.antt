@@ -23,7 +23,7 @@ use Rattle.hippo_combine.specs.declared.combine.Combine.{Combine}
 use Rattle.hippo_combine.specs.Combining.{combine_terms}
 use Rattle.hippo_combine.specs.Held.{all_taken}
 use Rattle.hippo_replay.specs.declared.state.State.{State}
-use Rattle.hippo_replay.specs.Standing.{StandsFor}
+use Rattle.hippo_replay.specs.Standing.{Represents}
 use Rattle.hippo_engine_rules.specs.declared.faults.EngineFault.{EngineFault}
 use Rattle.hippo_engine_audits.specs.Auditing.{FindsFlags, reading_end}
 
@@ -43,7 +43,7 @@ min_same count = grind arith
 
 -- a job that looked at all queries has the flags of the history
 pub finds_flags : (audit : Audit) (held : State) (past : Past) (combine : Combine) (result : Result (Unit {0}) ReadFault) (job : Job Combine) (before after : KeeperState) (steps steps' : ℕ)
-    → IsNew combine_terms combine → ((history : History) → StandsFor held history → IsPastOf past history)
+    → IsNew combine_terms combine → ((history : History) → Represents held history → IsPastOf past history)
     → HasStepped combine_terms held.count past result (new_job audit held.count combine) job before after steps steps'
     → FindsFlags audit held (found_by result job) before after steps steps'
 finds_flags audit held past combine result job before after steps steps' new is_past stepped = record {
@@ -63,7 +63,7 @@ finds_flags audit held past combine result job before after steps steps' new is_
       };
 }
   where
-    by : (answer : Result (Unit {0}) ReadFault) (history : History) → StandsFor held history → LooksOver combine_terms history answer (new_job audit held.count combine) job
+    by : (answer : Result (Unit {0}) ReadFault) (history : History) → Represents held history → LooksOver combine_terms history answer (new_job audit held.count combine) job
         → OnOk answer (job.place ≡ min (0 + held.count) held.count) → IfOk (found_by answer job) (λ flags. flags ≡ flags_between meaning history audit 0 (length history))
     by (Ok all) history stands over place =
         over.flags ∙ ap (λ (upto : ℕ). flags_between meaning history audit 0 upto) (place ∙ min_same held.count ∙ stands.count)

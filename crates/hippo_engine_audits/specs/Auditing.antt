@@ -14,7 +14,7 @@ use Rattle.hippo_backlog.specs.declared.faults.ReadFault.{ReadFault}
 use Rattle.hippo_backlog.specs.declared.faults.ReadFault.TheVariants.{Keeper, Damaged, Memory}
 use Rattle.hippo_audit_job.specs.Examining.{IsAuditOf}
 use Rattle.hippo_replay.specs.declared.state.State.{State}
-use Rattle.hippo_replay.specs.Standing.{StandsFor}
+use Rattle.hippo_replay.specs.Standing.{Represents}
 use Rattle.hippo_report.specs.declared.speaker.Speaker.TheVariants.{Console}
 use Rattle.hippo_report.specs.declared.format.Format.{Format}
 use Rattle.hippo_report.specs.declared.refusal.Refusal.TheVariants as refusals
@@ -40,7 +40,7 @@ pub record FindsFlags (audit : Audit) (state : State) (result : Result (List Fla
   pub call : IsAfterCall true false (reading_as_call result) before after
   pub stays : after.tells → KeepsSame before after
   pub told : after.tells → (history : History) → map stored history ≡ before.kept
-      → StandsFor state history
+      → Represents state history
       → IsAuditOf history audit → HasFlags history audit result steps steps'
 
 -- the result of a line whose reading failed: it was carried out when out of memory; otherwise the

@@ -15,7 +15,7 @@ use Rattle.hippo_audit_explain.specs.declared.faults.DenialsFault.TheVariants.{R
 use Rattle.hippo_audit_explain.specs.Denying as listing
 use Rattle.hippo_audit_explain.specs.Denying.{Denies}
 use Rattle.hippo_replay.specs.declared.state.State.{State}
-use Rattle.hippo_replay.specs.Standing.{StandsFor}
+use Rattle.hippo_replay.specs.Standing.{Represents}
 use Rattle.hippo_report.specs.declared.speaker.Speaker.TheVariants.{Console}
 use Rattle.hippo_report.specs.declared.refusal.Refusal.TheVariants as refusals
 use Rattle.hippo_report.specs.Refusals.{refusal_line}
@@ -63,7 +63,7 @@ pub record Explains (number : ℤ) (state : State) (result : Explanation) (befor
   pub call : IsAfterCall true false (explanation_as_call result) before after
   pub stays : after.tells → KeepsSame before after
   pub told : after.tells → (history : History) → map stored history ≡ before.kept
-      → StandsFor state history
+      → Represents state history
       → HasExplained history number result steps steps'
 
 -- the reply with what EXPLAIN finds

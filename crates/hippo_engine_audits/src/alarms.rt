@@ -6,7 +6,7 @@ ghost use Rattle.hippo_model.specs.Terms.{History};
 ghost use Rattle.hippo_typing.specs.Meanings.{meaning};
 ghost use Rattle.hippo_watch.specs.Alarms.{AreOfSome};
 ghost use Rattle.hippo_report_flags.specs.AlarmLines.{alarm_text};
-ghost use Rattle.hippo_replay.specs.Standing.{StandsFor, IsSound};
+ghost use Rattle.hippo_replay.specs.Standing.{Represents, IsSound};
 ghost use Rattle.hippo_engine_world.specs.Holding.{world_of, WatchesFit};
 ghost use Rattle.hippo_engine_checks.specs.Asking.{question_of};
 ghost use Rattle.hippo_engine_checks.specs.Deeds.{Question as AskedQuestion};
@@ -111,7 +111,7 @@ fn print_alarms(
     requires sound { IsSound state.now }
     requires below { state.now.count + 1 < 2 ^ 63 }
     ensures { OnOk result ((history : History) (question : AskedQuestion)
-        → StandsFor state.now history
+        → Represents state.now history
         → WatchesFit history world.now → question.pair ≡ pair.now
         → meaning history question.text ≡ meant
         → out.new ≡ out.old ++ alarms_now history (world_of world.now) question) }
@@ -149,7 +149,7 @@ fn tell_alarms(
 ) -> Result<(), Memory>
     requires sound { IsSound state.now }
     requires below { state.now.count + 1 < 2 ^ 63 }
-    ensures { OnOk result ((session : ℕ) (history : History) → StandsFor state.now history
+    ensures { OnOk result ((session : ℕ) (history : History) → Represents state.now history
         → WatchesFit history world.now
         → out.new ≡ out.old ++ alarms_now history (world_of world.now)
         (question_of session asking.now)) }
@@ -172,7 +172,7 @@ pub fn alarms_of(
 ) -> Result<Txt, Memory>
     requires sound { IsSound state.now }
     requires below { state.now.count + 1 < 2 ^ 63 }
-    ensures { IfOk result (λ said. (session : ℕ) (history : History) → StandsFor state.now history
+    ensures { IfOk result (λ said. (session : ℕ) (history : History) → Represents state.now history
         → WatchesFit history world.now
         → said ≡ alarms_now history (world_of world.now) (question_of session asking.now)) }
 {

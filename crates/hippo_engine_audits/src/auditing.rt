@@ -16,7 +16,7 @@ ghost use Rattle.hippo_engine_rules.specs.Effects.{lines_and_count};
 use hippo_audit_job::{Job, Past};
 use hippo_backlog::ReadFault;
 use hippo_combine::Combine;
-use hippo_engine_rules::{EngineFault, Reply, refuse_for_memory};
+use hippo_engine_rules::{EngineFault, Reply, refuse_out_of_memory};
 use hippo_keeper::{Keeper, Steps};
 use hippo_model::{Audit, Flag};
 use hippo_replay::State;
@@ -94,7 +94,7 @@ pub(crate) fn say_unread(fault: ReadFault, reply: &mut Reply) -> Result<(), Engi
 {
     match fault {
         ReadFault::Memory => {
-            refuse_for_memory(Speaker::Console, reply);
+            refuse_out_of_memory(Speaker::Console, reply);
             Ok(())
         }
         ReadFault::Keeper => Err(EngineFault::Keeper),
@@ -117,7 +117,7 @@ fn say_flags(
     match found {
         Ok(job) => {
             if print_flags(alloc, format, job.waiting().as_slice(), reply).is_err() {
-                refuse_for_memory(Speaker::Console, reply);
+                refuse_out_of_memory(Speaker::Console, reply);
             }
             drop(job);
             Ok(())

@@ -9,7 +9,7 @@ ghost use Rattle.hippo_engine_audits.specs.Explaining.{told_of, told_cells, expl
 
 use hippo_audit_explain::{DenialsFault, Denied, denied_cells};
 use hippo_backlog::ReadFault;
-use hippo_engine_rules::{EngineFault, Reply, refuse, refuse_for_memory};
+use hippo_engine_rules::{EngineFault, Reply, refuse, refuse_out_of_memory};
 use hippo_keeper::{Keeper, Steps};
 use hippo_model::Entry;
 use hippo_replay::State;
@@ -50,7 +50,7 @@ fn say_cells(
     match found {
         Ok(cells) => {
             if print_cells(cells.as_slice(), reply).is_err() {
-                refuse_for_memory(Speaker::Console, reply);
+                refuse_out_of_memory(Speaker::Console, reply);
             }
             drop(cells);
             Ok(())
@@ -60,7 +60,7 @@ fn say_cells(
             Ok(())
         }
         Err(DenialsFault::Read(ReadFault::Memory)) => {
-            refuse_for_memory(Speaker::Console, reply);
+            refuse_out_of_memory(Speaker::Console, reply);
             Ok(())
         }
         Err(DenialsFault::Read(ReadFault::Keeper)) => Err(EngineFault::Keeper),

@@ -7,7 +7,7 @@ ghost use Rattle.hippo_engine_audits.specs.Stepping.{progress_line, step_text, S
 use crate::auditing::{append_flags, say_unread};
 use crate::fetching::{append_end, append_part};
 use hippo_backlog::ReadFault;
-use hippo_engine_rules::{EngineFault, Reply, refuse_for_memory};
+use hippo_engine_rules::{EngineFault, Reply, refuse_out_of_memory};
 use hippo_engine_world::AuditJob;
 use hippo_keeper::Keeper;
 use hippo_report::{Format, Speaker};
@@ -46,7 +46,7 @@ fn say_step(alloc: Global, format: Format, job: &mut AuditJob, reply: &mut Reply
 {
     match print_step(alloc, format, job, reply) {
         Ok(()) => job.written(),
-        Err(Memory) => refuse_for_memory(Speaker::Console, reply),
+        Err(Memory) => refuse_out_of_memory(Speaker::Console, reply),
     }
 }
 

@@ -21,14 +21,14 @@ use Rattle.hippo_typing_laws.specs.ReadingLaws.{select_place as question_in_stat
 use Rattle.hippo_typing_laws.specs.Written.{names_fit}
 use Rattle.hippo_typing_laws.proofs.AskedTheorem.{questions_may_follow}
 use Rattle.hippo_replay.specs.declared.state.State.{State}
-use Rattle.hippo_replay.specs.Standing.{StandsFor, MayFollow, IsTimely}
+use Rattle.hippo_replay.specs.Standing.{Represents, MayFollow, IsTimely}
 use Rattle.hippo_engine_sessions.specs.declared.sessions.Session.{Session}
 use Rattle.hippo_engine_sessions.specs.Worlds.{World, session_at}
 use Rattle.hippo_engine_checks.specs.declared.asking.Asking.{Asking}
 use Rattle.hippo_engine_checks.specs.declared.asking.Delivery.{Delivery}
 use Rattle.hippo_engine_checks.specs.declared.asking.Delivery.TheVariants as delivered
-use Rattle.hippo_engine_checks.specs.declared.asking.Handing.{Handing}
-use Rattle.hippo_engine_checks.specs.declared.asking.Handing.TheVariants.{Rows, Records, Cursor}
+use Rattle.hippo_engine_checks.specs.declared.asking.AnswerForm.{AnswerForm}
+use Rattle.hippo_engine_checks.specs.declared.asking.AnswerForm.TheVariants.{Rows, Records, Cursor}
 use Rattle.hippo_engine_checks.specs.declared.asking.WrittenQuestion.{WrittenQuestion}
 use Rattle.hippo_engine_checks.specs.Asking.{question_of, statement_asked, written_command, written_text, deed_asked, IsAnswerable}
 use Rattle.hippo_engine_checks.proofs.FindingLemmas.{is_there, refused_or_short}
@@ -66,7 +66,7 @@ record IsAsked (history : History) (select : RawSelect) (text : Txt) (asking : A
   unrefused : select_refused (known_at history) select ≡ []
   text_is : text ≡ asking.text.now
 
-module _ (handing : Handing) (history : History) (world : World) (number : ℕ) (select : RawSelect) (text : Txt) (asking : Asking) where
+module _ (handing : AnswerForm) (history : History) (world : World) (number : ℕ) (select : RawSelect) (text : Txt) (asking : Asking) where
   abbrev refusals : List NameFault
   refusals = select_refused (known_at history) select
 
@@ -113,7 +113,7 @@ module _ (handing : Handing) (history : History) (world : World) (number : ℕ) 
       ∙ asked_so asking.asker.now (question_of number asking) asks.found asking.delivery))
 
 -- the statement that asks the question has this select between these offsets
-asks_select : (handing : Handing) (select : RawSelect) (start end : ℕ) → question_in_statement (statement_asked handing select start end) ≡ Some (select, start, end)
+asks_select : (handing : AnswerForm) (select : RawSelect) (start end : ℕ) → question_in_statement (statement_asked handing select start end) ≡ Some (select, start, end)
 asks_select Rows select start end = refl
 asks_select Records select start end = refl
 asks_select Cursor select start end = refl
@@ -122,7 +122,7 @@ asks_select Cursor select start end = refl
 pub question_follows : (state : State) (held : World) (session : ℕ) (written : WrittenQuestion) (text : Txt) (asking : Asking)
     → IsTimely state held.clock → is_moment held.clock ≡ true → names_fit asking.asker.now.user asking.asker.now.pair.purpose asking.asker.now.pair.recipient ≡ true
     → IsOfLine (written_command session written text) → length (written_text written text) ≤ line_limit → state.count + 1 < 2 ^ 63
-    → ((history : History) → StandsFor state history → judged history held (written_command session written text) ≡ Ok (deed_asked session asking))
+    → ((history : History) → Represents state history → judged history held (written_command session written text) ≡ Ok (deed_asked session asking))
     → MayFollow state (question_entry state held.clock (question_of 0 asking))
 question_follows state held session written text asking timely fits names of_line short below found = λ history stands.
     let asker : Session = asking.asker.now in
@@ -148,11 +148,11 @@ pub may_be_asked : (state : State) (held : World) (session : ℕ) (written : Wri
     → IsTimely state held.clock → is_moment held.clock ≡ true → names_fit asking.asker.now.user asking.asker.now.pair.purpose asking.asker.now.pair.recipient ≡ true
     → IsOfLine (written_command session written text) → length (written_text written text) ≤ line_limit → state.count + 1 < 2 ^ 63 → IsAnswerable state asking.query
     → open_session held session ≡ Ok asking.asker.now → question.session ≡ session → asking.text.now ≡ question.text.now → question.query ≡ asking.query
-    → ((history : History) → StandsFor state history → judged_question written.handing history held (speaker.Session session) written.select.now (written_text written text) ≡ Ok (deed_asked session asking))
+    → ((history : History) → Represents state history → judged_question written.handing history held (speaker.Session session) written.select.now (written_text written text) ≡ Ok (deed_asked session asking))
     → MayBeAsked (written_command session written text) question asking.delivery state held
 may_be_asked state held session written text asking question timely fits names of_line short below answerable opened own same query found =
     let asker : Session = asking.asker.now in
-    let judged_is : (history : History) → StandsFor state history → judged history held (written_command session written text) ≡ Ok (deed_asked session asking) =
+    let judged_is : (history : History) → Represents state history → judged history held (written_command session written text) ≡ Ok (deed_asked session asking) =
     λ history stands. judged_written written text history held session ∙ found history stands in
     record {
       asker = asker;
@@ -171,7 +171,7 @@ may_be_asked state held session written text asking question timely fits names o
 
 -- otherwise it is refused
 pub refused_question : (state : State) (held : World) (session : ℕ) (written : WrittenQuestion) (text : Txt) (refusal : Refusal)
-    → ((history : History) → StandsFor state history → Refuses (judged_question written.handing history held (speaker.Session session) written.select.now (written_text written text)) refusal)
+    → ((history : History) → Represents state history → Refuses (judged_question written.handing history held (speaker.Session session) written.select.now (written_text written text)) refusal)
     → IsRefused (written_command session written text) refusal state held
 refused_question state held session written text refusal refuses =
     refused_or_short (written_command session written text) refusal state held refl

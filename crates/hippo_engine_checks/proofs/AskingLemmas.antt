@@ -25,14 +25,14 @@ use Rattle.hippo_tables.specs.Standing.{are_created}
 use Rattle.hippo_stmt_lines.specs.Commands as commands
 use Rattle.hippo_engine_sessions.specs.Worlds.{World}
 use Rattle.hippo_replay.specs.declared.state.State.{State}
-use Rattle.hippo_replay.specs.Standing.{StandsFor}
+use Rattle.hippo_replay.specs.Standing.{Represents}
 use Rattle.hippo_engine_sessions.specs.declared.sessions.Session.{Session}
 use Rattle.hippo_engine_checks.specs.Deeds.{Deed, Question}
 use Rattle.hippo_engine_checks.specs.Checks.{Checked, Finds, open_session, by_authorized_user, unless_refused, has_room}
 use Rattle.hippo_engine_checks.specs.declared.asking.Asking.{Asking}
 use Rattle.hippo_engine_checks.specs.declared.asking.Delivery.{Delivery}
-use Rattle.hippo_engine_checks.specs.declared.asking.Handing.{Handing}
-use Rattle.hippo_engine_checks.specs.declared.asking.Handing.TheVariants.{Rows, Records, Cursor}
+use Rattle.hippo_engine_checks.specs.declared.asking.AnswerForm.{AnswerForm}
+use Rattle.hippo_engine_checks.specs.declared.asking.AnswerForm.TheVariants.{Rows, Records, Cursor}
 use Rattle.hippo_engine_checks.specs.Judging.{text_between, delivery_for, deed_for, judged_question, judged}
 use Rattle.hippo_engine_checks.specs.declared.asking.WrittenQuestion.{WrittenQuestion}
 use Rattle.hippo_engine_checks.specs.Asking.{statement_asked, written_command, written_text, delivery_in_room, asking_with, deed_asked, IsAnswerable}
@@ -53,7 +53,7 @@ meant_not (head ∷ more) form fault refusal first (inl (other, is)) =
     inl (λ i. Err (told i))
 
 -- a SELECT, an EXTRACT or an OPEN is judged as a question
-judged_asked : (handing : Handing) (history : History) (world : World) (session : ℕ) (select : RawSelect) (start end : ℕ) (text : Txt)
+judged_asked : (handing : AnswerForm) (history : History) (world : World) (session : ℕ) (select : RawSelect) (start end : ℕ) (text : Txt)
     → judged history world (commands.make_statement (speaker.Session session) (statement_asked handing select start end) text)
     ≡ judged_question handing history world (speaker.Session session) select (text_between text start end)
 judged_asked Rows history world session select start end text = refl
@@ -79,7 +79,7 @@ tables_known : (known : KnownNames) (select : RawSelect) → select_refused know
 tables_known known select none = (none_of_both _ _ (none_of_both _ _ (none_of_both _ _ (none_of_both _ _ (none_of_both _ _ (none_of_both _ _ none).0).0).0).0).0).0
 
 -- a select that is not refused can be answered
-pub answerable : (state : State) (history : History) (select : RawSelect) (query : Query) → StandsFor state history
+pub answerable : (state : State) (history : History) (select : RawSelect) (query : Query) → Represents state history
     → select_refused state.catalog.names select ≡ [] → query ≡ query_of state.catalog.names select → IsAnswerable state query
 answerable state history select query stands none is =
     let none_at : select_refused (known_at history) select ≡ [] = subst (λ (known : KnownNames). select_refused known select ≡ []) stands.names none in
@@ -105,7 +105,7 @@ with_found session asking checked (Ok delivery) is = ap (λ (c : Checked Deliver
 with_found session asking checked (Err refusal) (inl is) = inl (ap (λ (c : Checked Delivery). c >>= λ delivery. Ok (deed_asked session (record asking { delivery = delivery }))) is)
 with_found session asking checked (Err refusal) (inr short) = inr short
 
-module _ (handing : Handing) (history : History) (world : World) (session : ℕ) (select : RawSelect) (asking : Asking) where
+module _ (handing : AnswerForm) (history : History) (world : World) (session : ℕ) (select : RawSelect) (asking : Asking) where
   -- the rest of the checks, after the asker, the authorization and the meaning are known
   left_asker : Checked Session → Checked Question → Checked Deed
   left_asker opened found = found >>= λ question. opened >>= λ asker. delivery_for handing asker >>= λ delivery. has_room history world >>= λ room. Ok (deed_for asker question delivery)

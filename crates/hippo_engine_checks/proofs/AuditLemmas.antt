@@ -14,7 +14,7 @@ use Rattle.hippo_audit_job.specs.Examining.{IsAuditOf}
 use Rattle.hippo_audit_job.proofs.AuditLemmas.{unrefused_is_audit}
 use Rattle.hippo_report.specs.declared.speaker.Speaker.TheVariants.{Console}
 use Rattle.hippo_replay.specs.declared.state.State.{State}
-use Rattle.hippo_replay.specs.Standing.{StandsFor}
+use Rattle.hippo_replay.specs.Standing.{Represents}
 use Rattle.hippo_engine_checks.specs.Checks.{Checked, Finds, unless_refused}
 use Rattle.hippo_engine_checks.specs.Judging.{audit_in}
 
@@ -40,7 +40,7 @@ audit_found history written known result same finds =
     subst (λ (names : KnownNames). Finds (λ audit. audit) (unless_refused (audit_refused names (period_in written) written) (audit_of names (period_in written) written)) result) same finds
 
 -- an audit expression without faults means an audit of every history that the state stands for
-pub audit_stands : (held : State) (written : RawAudit) (audit : Audit) (history : History) → StandsFor held history
+pub audit_stands : (held : State) (written : RawAudit) (audit : Audit) (history : History) → Represents held history
     → (audit_refused held.catalog.names (period_in written) written ≡ []) × (audit ≡ audit_of held.catalog.names (period_in written) written) → IsAuditOf history audit
 audit_stands held written audit history stands unrefused =
     let period = period_in written in

@@ -21,7 +21,7 @@ use Rattle.hippo_model_laws.proofs.ValidFronts.{entry_has_its_number, front_is_v
 use Rattle.hippo_keeper.specs.declared.faults.KeeperFault.{KeeperFault}
 use Rattle.hippo_keeper.specs.Answering.{has_failed}
 use Rattle.hippo_keeper.specs.Keeping.{Store, KeeperState, RisesAbove, last_number, next_number}
-use Rattle.hippo_keeper.specs.Selecting.{is_any, handed_over, stored_versions, ReadsEntries}
+use Rattle.hippo_keeper.specs.Selecting.{is_any, selected_entries, stored_versions, ReadsEntries}
 use Rattle.hippo_keeper.proofs.StoredLemmas.{stored_versions-stored}
 use Rattle.hippo_typing_catalog.proofs.ListLemmas.{drop_at_item}
 use Rattle.hippo_typing.specs.Meanings.{meaning}
@@ -32,7 +32,7 @@ use Rattle.hippo_backlog.proofs.VersionsTheorem.{may_there}
 use Rattle.hippo_backlog.proofs.NumberLemmas.{valid-rises}
 use Rattle.hippo_backlog.proofs.CallLemmas.{reading_as_call-read_fault, undamaged_by}
 use Rattle.hippo_keeper.proofs.CallLemmas.{KeepsSame-Stays, IsAfterCall-as}
-use Rattle.hippo_replay.proofs.KeeperLemmas.{handed_over-remaining, next_kept-stored}
+use Rattle.hippo_replay.proofs.KeeperLemmas.{selected_entries-remaining, next_kept-stored}
 use Rattle.hippo_engine_checks.specs.Checks.{question_at}
 use Rattle.hippo_model.specs.HandedOver.{is_question}
 use Rattle.hippo_engine_checks.specs.Entries.{number_within, IsFormOf, IsRead, HasReadEntry, ReadsEntry}
@@ -173,7 +173,7 @@ module _ (history : History) (valid : is_valid meaning history ≡ true) (number
   whole = ap (λ (rest : History). take place history ++ rest) (sym (drop_at_item history place entry is)) ∙ take-append-drop place history
 
   -- reading one entry after the previous number yields the entry
-  pub handed : handed_over is_any place 1 (map stored history) ≡ stored entry ∷ []
+  pub handed : selected_entries is_any place 1 (map stored history) ≡ stored entry ∷ []
   handed =
       let front : History = take place history in
       let parted : map stored front ++ stored entry ∷ map stored later ≡ map stored history = sym (map-append stored front (entry ∷ later)) ∙ ap (map stored) whole in
@@ -182,7 +182,7 @@ module _ (history : History) (valid : is_valid meaning history ≡ true) (number
       let long : length front ≡ place = length-take-le place history (omega (arith, within place history entry is)) in
       let last : last_number 0 (map stored front) ≡ place = omega (arith, next, long) in
       let rises : RisesAbove 0 (map stored front ++ stored entry ∷ map stored later) = subst (λ (s : Store). RisesAbove 0 s) (sym parted) (valid-rises meaning history valid) in
-      ap (handed_over is_any place 1) (sym parted) ∙ handed_over-remaining 1 place (map stored front) (stored entry ∷ map stored later) last rises
+      ap (selected_entries is_any place 1) (sym parted) ∙ selected_entries-remaining 1 place (map stored front) (stored entry ∷ map stored later) last rises
 
   keepable : is_keepable entry ≡ true
   keepable =
@@ -234,7 +234,7 @@ module _ (number : ℕ) (from : 1 ≤ number) (before after : KeeperState) (step
     stays = λ tells. KeepsSame-Stays before after (over.stays tells);
     told = λ tells held history forms stands inside.
         let at = there history (number - 1) (omega (arith, from, inside)) in
-        let first : list ≡ stored at.0 ∷ [] = over.ok.told tells ∙ ap (handed_over is_any (number - 1) 1) (sym forms) ∙ handed history stands.valid number from at.0 at.1 in
+        let first : list ≡ stored at.0 ∷ [] = over.ok.told tells ∙ ap (selected_entries is_any (number - 1) 1) (sym forms) ∙ handed history stands.valid number from at.0 at.1 in
         read_as history stands.valid list at.0 at.1 first counted result read;
   }
 

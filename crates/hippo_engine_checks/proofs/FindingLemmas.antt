@@ -15,7 +15,7 @@ use Rattle.hippo_model.specs.Terms.{History}
 use Rattle.hippo_keeper.specs.Keeping.{KeeperState}
 use Rattle.hippo_audit_job.specs.Jobs.{OpenAudit}
 use Rattle.hippo_replay.specs.declared.state.State.{State}
-use Rattle.hippo_replay.specs.Standing.{StandsFor, MayFollow}
+use Rattle.hippo_replay.specs.Standing.{Represents, MayFollow}
 use Rattle.hippo_report.specs.declared.refusal.Refusal.{Refusal}
 use Rattle.hippo_report.specs.declared.refusal.Refusal.TheVariants.{SessionsOnly, ConsoleOnly, NoSession, NoCursor, NoJob, NoWatch, JobLimit, WatchLimit}
 use Rattle.hippo_report.specs.declared.speaker.Speaker.{Speaker}
@@ -27,8 +27,8 @@ use Rattle.hippo_engine_sessions.specs.Worlds.{World, at_number, session_at, fre
 use Rattle.hippo_stmt_lines.specs.Forms as requests
 use Rattle.hippo_stmt_lines.specs.Commands.{Command, make_request, who_commands}
 use Rattle.hippo_stmt_lines.specs.Commands as commands
-use Rattle.hippo_engine_checks.specs.declared.asking.Handing.{Handing}
-use Rattle.hippo_engine_checks.specs.declared.asking.Handing.TheVariants.{Rows, Records, Cursor}
+use Rattle.hippo_engine_checks.specs.declared.asking.AnswerForm.{AnswerForm}
+use Rattle.hippo_engine_checks.specs.declared.asking.AnswerForm.TheVariants.{Rows, Records, Cursor}
 use Rattle.hippo_engine_checks.specs.declared.asking.WrittenQuestion.{WrittenQuestion}
 use Rattle.hippo_engine_checks.specs.Asking.{is_asking, statement_asked, written_statement}
 use Rattle.hippo_engine_checks.specs.declared.deeds.Deed.{Deed}
@@ -36,7 +36,7 @@ use Rattle.hippo_engine_checks.specs.declared.deeds.Deed.TheVariants as kinds
 use Rattle.hippo_engine_checks.specs.declared.deeds.Unjudged.{Unjudged}
 use Rattle.hippo_engine_checks.specs.declared.statements.LastingAudit.{LastingAudit}
 use Rattle.hippo_engine_checks.specs.declared.statements.LastingAudit.TheVariants.{Job, Watch}
-use Rattle.hippo_engine_checks.specs.Checks.{Checked, Refuses, by_console, by_session, open_session, cursor_in_session, job_at, StandsJob, held_watch, reply_room}
+use Rattle.hippo_engine_checks.specs.Checks.{Checked, Refuses, by_console, by_session, open_session, cursor_in_session, job_at, HasJob, held_watch, reply_room}
 use Rattle.hippo_engine_checks.specs.Deeds as deeds
 use Rattle.hippo_engine_checks.specs.Changes.{IsChange}
 use Rattle.hippo_engine_checks.specs.Findings.{AddsNextEntry, IsJudged, IsRefused, IsAuditOfState, Does, FindsDeed, begins, begun_with, free_to_begin, without_reading, Judges, may_do_nothing}
@@ -45,7 +45,7 @@ use Rattle.hippo_engine_checks.proofs.FollowingLemmas.{some_so}
 
 -- a command that takes memory is refused, or is out of memory
 pub refused_or_short : (command : Command) (refusal : Refusal) (state : State) (world : World) → may_do_nothing command ≡ true
-    → ((history : History) → StandsFor state history → Refuses (judged history world command) refusal) → IsRefused command refusal state world
+    → ((history : History) → Represents state history → Refuses (judged history world command) refusal) → IsRefused command refusal state world
 refused_or_short command refusal state world takes refuses = record {
   refuses = refuses;
   exact = λ none. absurd (false≢true (sym none ∙ takes));
@@ -96,7 +96,7 @@ console_only who statement text state world refused plain =
     (λ history stands. inl (for_console who statement text history world refused plain))
 
 -- only a session may ask a question
-for_sessions : (who : Speaker) (handing : Handing) (select : RawSelect) (start end : ℕ) (text : Txt) (history : History) (world : World) → by_session who ≡ Err SessionsOnly
+for_sessions : (who : Speaker) (handing : AnswerForm) (select : RawSelect) (start end : ℕ) (text : Txt) (history : History) (world : World) → by_session who ≡ Err SessionsOnly
     → judged history world (commands.make_statement who (statement_asked handing select start end) text) ≡ Err SessionsOnly
 for_sessions (speaker.Session number) handing select start end text history world refused = absurd cc
 for_sessions Nobody Rows select start end text history world refused = refl
@@ -133,7 +133,7 @@ refused_close world state number at refusal is fits =
 
 -- ---- jobs
 -- a job has this number, or looking it up fails
-pub job_there : (world : World) (number : ℕ) → is_some (at_number world.jobs number) ≡ true → StandsJob world number
+pub job_there : (world : World) (number : ℕ) → is_some (at_number world.jobs number) ≡ true → HasJob world number
 job_there world number is = some_there (at_number world.jobs number) is
 
 pub no_job : (world : World) (number : ℕ) → is_some (at_number world.jobs number) ≡ false → job_at world number ≡ Err (NoJob number)
@@ -198,8 +198,8 @@ module _ (state : State) (world : World) (written : RawAudit) (text : Txt) where
   abbrev of_audit : (Audit → Checked deeds.Deed) → History → Checked deeds.Deed
   of_audit next history = audit_in history Console written >>= next
 
-  module _ (audit : Audit) (means : IsAuditOfState audit state) (is : (history : History) → StandsFor state history → audit_in history Console written ≡ Ok audit) where
-    judged_audit : (next : Audit → Checked deeds.Deed) (history : History) → StandsFor state history → of_audit next history ≡ next audit
+  module _ (audit : Audit) (means : IsAuditOfState audit state) (is : (history : History) → Represents state history → audit_in history Console written ≡ Ok audit) where
+    judged_audit : (next : Audit → Checked deeds.Deed) (history : History) → Represents state history → of_audit next history ≡ next audit
     judged_audit next history stands = ap (λ (checked : Checked Audit). checked >>= next) (is history stands)
 
     pub may_audit : Does (commands.make_statement Console (stmt.Audit written) text) (kinds.Audit audit) state world
@@ -209,7 +209,7 @@ module _ (state : State) (world : World) (written : RawAudit) (text : Txt) where
         → (ok_or free limit >>= λ number. Ok (make number audit)) ≡ (ok_or found limit >>= λ number. Ok (make number audit))
     at_free make limit free found is = ap (λ (one : Option ℕ). ok_or one limit >>= λ number. Ok (make number audit)) is
 
-    begun : (make : ℕ → Audit → deeds.Deed) (limit : Refusal) (free found : Option ℕ) → free ≡ found → (history : History) → StandsFor state history
+    begun : (make : ℕ → Audit → deeds.Deed) (limit : Refusal) (free found : Option ℕ) → free ≡ found → (history : History) → Represents state history
         → of_audit (λ one. ok_or free limit >>= λ number. Ok (make number one)) history ≡ (ok_or found limit >>= λ number. Ok (make number audit))
     begun make limit free found is history stands =
         judged_audit (λ one. ok_or free limit >>= λ number. Ok (make number one)) history stands ∙ at_free make limit free found is
@@ -228,7 +228,7 @@ module _ (state : State) (world : World) (written : RawAudit) (text : Txt) where
 -- a statement with an audit is refused if the audit is refused
 pub refused_audit : (state : State) (world : World) (written : RawAudit) (command : Command) (next : Audit → Checked deeds.Deed) (refusal : Refusal) → may_do_nothing command ≡ true
     → ((history : History) → judged history world command ≡ (audit_in history Console written >>= next))
-    → ((history : History) → StandsFor state history → Refuses (audit_in history Console written) refusal) → IsRefused command refusal state world
+    → ((history : History) → Represents state history → Refuses (audit_in history Console written) refusal) → IsRefused command refusal state world
 refused_audit state world written command next refusal takes begins refuses =
     refused_or_short command refusal state world takes
     (λ history stands. subst (λ (judgement : Checked deeds.Deed). Refuses judgement refusal) (sym (begins history))
@@ -236,7 +236,7 @@ refused_audit state world written command next refusal takes begins refuses =
 
 -- so is a statement that begins a job or sets a watch
 pub refused_begin : (state : State) (world : World) (written : RawAudit) (text : Txt) (lasting : LastingAudit) (refusal : Refusal)
-    → ((history : History) → StandsFor state history → Refuses (audit_in history Console written) refusal)
+    → ((history : History) → Represents state history → Refuses (audit_in history Console written) refusal)
     → IsRefused (commands.make_statement Console (begins lasting written) text) refusal state world
 refused_begin state world written text Job refusal refuses =
     refused_audit state world written (commands.make_statement Console (stmt.BeginAudit written) text)
@@ -248,7 +248,7 @@ refused_begin state world written text Watch refusal refuses =
 -- ---- changes
 module _ (state : State) (world : World) (command : Command) (judgement : History → Checked deeds.Deed) (takes : may_do_nothing command ≡ true)
     (begins : (history : History) → judged history world command ≡ judgement history) where
-  pub may_change : (entry : Entry) → who_commands command ≡ Console → ((history : History) → StandsFor state history → IsChange history world (judgement history) entry) → entry.seq < 2 ^ 63 → MayFollow state entry
+  pub may_change : (entry : Entry) → who_commands command ≡ Console → ((history : History) → Represents state history → IsChange history world (judgement history) entry) → entry.seq < 2 ^ 63 → MayFollow state entry
       → AddsNextEntry command entry state world
   may_change entry console is number follows = record {
     console = console;
@@ -258,7 +258,7 @@ module _ (state : State) (world : World) (command : Command) (judgement : Histor
     follows = follows;
   }
 
-  pub refused_change : (refusal : Refusal) → ((history : History) → StandsFor state history → Refuses (judgement history) refusal) → IsRefused command refusal state world
+  pub refused_change : (refusal : Refusal) → ((history : History) → Represents state history → Refuses (judgement history) refusal) → IsRefused command refusal state world
   refused_change refusal refuses =
       refused_or_short command refusal state world takes
       (λ history stands. subst (λ (one : Checked deeds.Deed). Refuses one refusal) (sym (begins history)) (refuses history stands))

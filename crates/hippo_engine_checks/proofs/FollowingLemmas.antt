@@ -25,7 +25,7 @@ use Rattle.hippo_typing_laws.specs.FollowingLaws.{HasRoomAt, ComesTo}
 use Rattle.hippo_typing_laws.specs.Written.{is_written}
 use Rattle.hippo_typing_laws.proofs.FollowingTheorem.{changes_may_follow}
 use Rattle.hippo_replay.specs.declared.state.State.{State}
-use Rattle.hippo_replay.specs.Standing.{StandsFor, MayFollow, IsTimely}
+use Rattle.hippo_replay.specs.Standing.{Represents, MayFollow, IsTimely}
 use Rattle.hippo_replay.proofs.AcceptanceLemmas.{order_is}
 use Rattle.hippo_engine_sessions.specs.Worlds.{World}
 use Rattle.hippo_engine_checks.specs.Changes.{FindsChange}
@@ -85,7 +85,7 @@ comes_to history world statement act written is =
     }
 
 -- the next number has 64 bits, and the clock is not before the last entry
-pub has_room_at : (state : State) (history : History) (moment : Moment) (number : ℕ) → StandsFor state history → IsTimely state moment → is_moment moment ≡ true
+pub has_room_at : (state : State) (history : History) (moment : Moment) (number : ℕ) → Represents state history → IsTimely state moment → is_moment moment ≡ true
     → number ≡ length history + 1 → number < 2 ^ 63 → HasRoomAt history moment
 has_room_at state history moment number stands timely fits is below = record {
   number = lt-ltb (length history + 1) 18446744073709551616 (omega (arith, is, below));
@@ -95,7 +95,7 @@ has_room_at state history moment number stands timely fits is below = record {
 
 -- the entry of a change that was found may follow the history
 pub change_follows : (state : State) (held : World) (statement : Stmt) (found : Result Entry Refusal) → IsTimely state held.clock → is_written statement ≡ true
-    → ((history : History) → StandsFor state history → FindsChange history held (judged_change history held Console statement) found)
+    → ((history : History) → Represents state history → FindsChange history held (judged_change history held Console statement) found)
     → IfOk found (λ entry. entry.seq < 2 ^ 63) → IfOk found (λ entry. is_moment entry.moment ≡ true) → IfOk found (λ entry. MayFollow state entry)
 change_follows state held statement (Ok entry) timely written finds below fits = λ history stands.
     let change = finds history stands in

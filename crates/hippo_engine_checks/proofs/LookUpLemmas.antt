@@ -13,7 +13,7 @@ use Rattle.hippo_backlog.specs.Calls as reads
 use Rattle.hippo_backlog.specs.declared.faults.ReadFault.{ReadFault}
 use Rattle.hippo_backlog.specs.declared.faults.ReadFault.TheVariants.{Keeper, Damaged, Memory}
 use Rattle.hippo_replay.specs.declared.state.State.{State}
-use Rattle.hippo_replay.specs.Standing.{StandsFor}
+use Rattle.hippo_replay.specs.Standing.{Represents}
 use Rattle.hippo_engine_checks.specs.Checks.{question_at}
 use Rattle.hippo_model.specs.HandedOver.{is_question}
 use Rattle.hippo_engine_checks.specs.Entries.{number_within, HasReadEntry, ReadsEntry}
@@ -38,7 +38,7 @@ missing_looks number held keeper steps ready none = record {
 }
 
 module _ (number : ℤ) (held : State) (place : ℕ) (in_range : IsNumber number held.count place) (before between : KeeperState) (steps steps' : ℕ) where
-  at_most : (history : History) → StandsFor held history → place ≤ length history
+  at_most : (history : History) → Represents held history → place ≤ length history
   at_most history stands = omega (arith, in_range.to, stands.count)
 
   back : 1 ≤ place → (place - 1) + 1 ≡ place

@@ -17,8 +17,8 @@ use Rattle.hippo_stmt_lines.specs.Commands.{Command}
 use Rattle.hippo_stmt_lines.specs.Commands as commands
 use Rattle.hippo_engine_checks.specs.declared.asking.Asking.{Asking}
 use Rattle.hippo_engine_checks.specs.declared.asking.Delivery.{Delivery}
-use Rattle.hippo_engine_checks.specs.declared.asking.Handing.{Handing}
-use Rattle.hippo_engine_checks.specs.declared.asking.Handing.TheVariants.{Rows, Records, Cursor}
+use Rattle.hippo_engine_checks.specs.declared.asking.AnswerForm.{AnswerForm}
+use Rattle.hippo_engine_checks.specs.declared.asking.AnswerForm.TheVariants.{Rows, Records, Cursor}
 use Rattle.hippo_engine_checks.specs.declared.asking.WrittenQuestion.{WrittenQuestion}
 use Rattle.hippo_engine_checks.specs.Checks.{Checked, refused_if}
 use Rattle.hippo_engine_checks.specs.Deeds.{Deed, Question, question_act}
@@ -35,7 +35,7 @@ question_of session asking = record {
 }
 
 -- the statement that asks for an answer in this form
-abbrev pub statement_asked : Handing → RawSelect → ℕ → ℕ → Stmt
+abbrev pub statement_asked : AnswerForm → RawSelect → ℕ → ℕ → Stmt
 statement_asked Rows select start end = stmt.Select select start end
 statement_asked Records select start end = stmt.Extract select start end
 statement_asked Cursor select start end = stmt.Ask select start end
@@ -65,7 +65,7 @@ IsWritten statement (Some written) = statement ≡ written_statement written
 IsWritten statement None = is_asking statement ≡ false
 
 -- how an answer is delivered, if there is room for one more entry
-abbrev pub delivery_in_room : Handing → Session → ℕ → ℕ → Checked Delivery
+abbrev pub delivery_in_room : AnswerForm → Session → ℕ → ℕ → Checked Delivery
 delivery_in_room handing session count limit = do
   delivery ← delivery_for handing session
   room ← refused_if (nat_le limit count) HistoryFull

@@ -106,8 +106,8 @@ abbrev pub job_at : World → ℕ → Checked OpenAudit
 job_at world at = ok_or (at_number world.jobs at) (NoJob at)
 
 -- a job has this number
-abbrev pub StandsJob : World → ℕ → Type 0
-StandsJob world number = (job : OpenAudit) × (at_number world.jobs number ≡ Some job)
+abbrev pub HasJob : World → ℕ → Type 0
+HasJob world number = (job : OpenAudit) × (at_number world.jobs number ≡ Some job)
 
 -- a watch has this number
 abbrev pub held_watch : World → ℕ → Checked (Unit {0})

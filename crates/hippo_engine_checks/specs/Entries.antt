@@ -12,7 +12,7 @@ use Rattle.hippo_backlog.specs.Calls as reads
 use Rattle.hippo_backlog.specs.declared.faults.ReadFault.{ReadFault}
 use Rattle.hippo_backlog.specs.declared.faults.ReadFault.TheVariants.{Keeper, Damaged, Memory}
 use Rattle.hippo_replay.specs.declared.state.State.{State}
-use Rattle.hippo_replay.specs.Standing.{StandsFor}
+use Rattle.hippo_replay.specs.Standing.{Represents}
 use Rattle.hippo_model.specs.HandedOver.{is_question}
 
 -- the number as one of this many entries, or none
@@ -54,5 +54,5 @@ pub record ReadsEntry (number : ℕ) (result : Result Entry ReadFault) (before a
   pub call : IsAfterCall true false (reads.reading_as_call result) before after
   pub stays : after.tells → KeepsSame before after
   pub told : after.tells → (state : State) (history : History) → map stored history ≡ before.kept
-      → StandsFor state history → number ≤ length history
+      → Represents state history → number ≤ length history
       → HasReadEntry history number result steps steps'

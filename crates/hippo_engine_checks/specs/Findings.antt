@@ -17,7 +17,7 @@ use Rattle.hippo_backlog.specs.declared.faults.ReadFault.TheVariants.{Damaged}
 use Rattle.hippo_audit_job.specs.Examining.{IsAuditOf}
 use Rattle.hippo_audit_job.specs.Jobs.{OpenAudit}
 use Rattle.hippo_replay.specs.declared.state.State.{State}
-use Rattle.hippo_replay.specs.Standing.{StandsFor, MayFollow}
+use Rattle.hippo_replay.specs.Standing.{Represents, MayFollow}
 use Rattle.hippo_report.specs.declared.refusal.Refusal.{Refusal}
 use Rattle.hippo_report.specs.declared.refusal.Refusal.TheVariants.{JobLimit, WatchLimit}
 use Rattle.hippo_report.specs.declared.speaker.Speaker.TheVariants.{Nobody, Console}
@@ -27,7 +27,7 @@ use Rattle.hippo_engine_sessions.specs.declared.cursors.Cursor.{Cursor}
 use Rattle.hippo_engine_sessions.specs.declared.sessions.Session.{Session}
 use Rattle.hippo_engine_sessions.specs.Worlds.{World, at_number, session_at, free_number}
 use Rattle.hippo_stmt_lines.specs.Forms as requests
-use Rattle.hippo_typing_laws.specs.CommandLaws.{StandsInLine as StandsIn}
+use Rattle.hippo_typing_laws.specs.CommandLaws.{IsPartOfLine as StandsIn}
 use Rattle.hippo_stmt_lines.specs.Commands.{Command, wrong, make_request, who_commands, takes_memory}
 use Rattle.hippo_stmt_lines.specs.Commands as commands
 use Rattle.hippo_engine_checks.specs.declared.asking.Delivery.{Delivery}
@@ -69,14 +69,14 @@ is_of_session request = false
 -- the judgement of a command, for every history that the state stands for
 abbrev pub IsJudged : Command → State → World → Checked deeds.Deed → Type 0
 IsJudged command state world judgement =
-    (history : History) → StandsFor state history
+    (history : History) → Represents state history
     → judged history world command ≡ judgement
 
 -- the command is refused, or fails as out of memory if it takes any; if it may not fail so, its
 -- refusal is short
 pub record IsRefused (command : Command) (refusal : Refusal) (state : State) (world : World)
     : Type 0 where
-  pub refuses : (history : History) → StandsFor state history
+  pub refuses : (history : History) → Represents state history
       → Refuses (judged history world command) refusal
   pub exact : may_do_nothing command ≡ false → IsJudged command state world (Err refusal)
   pub short : may_do_nothing command ≡ false
@@ -102,7 +102,7 @@ pub record AddsNextEntry (command : Command) (entry : Entry) (state : State) (wo
     : Type 0 where
   pub console : who_commands command ≡ Console
   pub memory : may_do_nothing command ≡ true
-  pub does : (history : History) → StandsFor state history
+  pub does : (history : History) → Represents state history
       → IsChange history world (judged history world command) entry
   pub number : entry.seq < 2 ^ 63
   pub follows : MayFollow state entry
@@ -133,7 +133,7 @@ pub record MayBeAsked (command : Command) (question : Question) (delivery : Deli
 
 -- the audit is an audit of every history that the state stands for
 pub record IsAuditOfState (audit : Audit) (state : State) : Type 0 where
-  pub fits : (history : History) → StandsFor state history → IsAuditOf history audit
+  pub fits : (history : History) → Represents state history → IsAuditOf history audit
   pub differ : IsDistinct bytes_eq audit.tables
 
 -- what to do for a command, and what carrying it out needs
@@ -228,7 +228,7 @@ pub record LooksUp (number : ℤ) (result : Result (Option Entry) ReadFault) (st
   pub call : IsAfterCall true false (reads.reading_as_call result) before after
   pub stays : after.tells → KeepsSame before after
   pub told : after.tells → (history : History) → map stored history ≡ before.kept
-      → StandsFor state history
+      → Represents state history
       → HasLookedUp history number result steps steps'
 
 -- the console asks why cells were denied to the question with a number, and that question is looked
@@ -260,8 +260,8 @@ without_reading (Ok deed) = Ok deed
 without_reading (Err refusal) = Err (Refused refusal)
 
 -- nothing was read to find this result
-abbrev pub is_still : Result Deed Unjudged → Bool
-is_still (Ok (kinds.Explain entry)) = false
-is_still (Ok deed) = true
-is_still (Err (Refused refusal)) = true
-is_still (Err fault) = false
+abbrev pub reads_nothing : Result Deed Unjudged → Bool
+reads_nothing (Ok (kinds.Explain entry)) = false
+reads_nothing (Ok deed) = true
+reads_nothing (Err (Refused refusal)) = true
+reads_nothing (Err fault) = false

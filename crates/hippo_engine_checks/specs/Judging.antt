@@ -36,8 +36,8 @@ use Rattle.hippo_stmt_lines.specs.Commands.{Command, nothing, wrong, make_reques
 use Rattle.hippo_stmt_lines.specs.Commands as commands
 use Rattle.hippo_engine_checks.specs.declared.asking.Delivery.{Delivery}
 use Rattle.hippo_engine_checks.specs.declared.asking.Delivery.TheVariants as delivered
-use Rattle.hippo_engine_checks.specs.declared.asking.Handing.{Handing}
-use Rattle.hippo_engine_checks.specs.declared.asking.Handing.TheVariants.{Rows, Records, Cursor}
+use Rattle.hippo_engine_checks.specs.declared.asking.AnswerForm.{AnswerForm}
+use Rattle.hippo_engine_checks.specs.declared.asking.AnswerForm.TheVariants.{Rows, Records, Cursor}
 use Rattle.hippo_engine_checks.specs.Deeds.{Deed, Question}
 use Rattle.hippo_engine_checks.specs.Deeds as deeds
 use Rattle.hippo_engine_checks.specs.Checks.{Checked, refused_if, by_console, by_session, open_session, may_log_in, by_authorized_user, unless_refused, act_made, has_room, question_at}
@@ -159,7 +159,7 @@ question_in history world number select text = do
   })
 
 -- how an answer is delivered; an OPEN needs a free cursor in its session
-abbrev pub delivery_for : Handing → Session → Checked Delivery
+abbrev pub delivery_for : AnswerForm → Session → Checked Delivery
 delivery_for Rows session = Ok delivered.Rows
 delivery_for Records session = Ok delivered.Records
 delivery_for Cursor session =
@@ -171,7 +171,7 @@ deed_for session question delivered.Records = deeds.extract question
 deed_for session question (delivered.Cursor number) = deeds.open_cursor session number question
 
 -- a SELECT, an EXTRACT or an OPEN
-abbrev pub judged_question : Handing → History → World → Speaker → RawSelect → Txt → Checked Deed
+abbrev pub judged_question : AnswerForm → History → World → Speaker → RawSelect → Txt → Checked Deed
 judged_question handing history world who select text = do
   number ← by_session who
   question ← question_in history world number select text

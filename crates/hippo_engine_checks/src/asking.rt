@@ -8,7 +8,7 @@ ghost use Rattle.hippo_report.specs.declared.speaker.Speaker.TheVariants as spea
 ghost use Rattle.hippo_typing_catalog.specs.Catalogs.{known_at};
 ghost use Rattle.hippo_typing_catalog.specs.Selects.{select_refused, query_of};
 ghost use Rattle.hippo_typing_laws.specs.Written.{names_fit};
-ghost use Rattle.hippo_replay.specs.Standing.{StandsFor, IsSound, IsTimely};
+ghost use Rattle.hippo_replay.specs.Standing.{Represents, IsSound, IsTimely};
 ghost use Rattle.hippo_engine_checks.specs.Checks.{Finds, open_session, unless_refused};
 ghost use Rattle.hippo_engine_checks.specs.declared.asking.Delivery.TheVariants as delivered;
 ghost use Rattle.hippo_engine_checks.specs.Judging.{delivery_for, judged_question, text_between};
@@ -33,7 +33,7 @@ use std::alloc::Global;
 /// The form in which a question wants its answer: as rows or as records in the reply, or in a
 /// cursor.
 #[derive(Clone, Copy, PartialEq, Eq)]
-pub enum Handing {
+pub enum AnswerForm {
     Rows,
     Records,
     Cursor,
@@ -43,7 +43,7 @@ pub enum Handing {
 /// it begins and ends in the text, as byte offsets.
 #[derive(Clone, Copy)]
 pub struct WrittenQuestion<'a> {
-    pub handing: Handing,
+    pub handing: AnswerForm,
     pub select: &'a RawSelect,
     pub start: usize,
     pub end: usize,
@@ -73,9 +73,9 @@ pub(crate) fn written_question(statement: &Stmt) -> Option<WrittenQuestion<'_>>
     ensures { IsWritten statement.now result }
 {
     let (handing, select, start, end) = match statement {
-        Stmt::Select { select, start, end } => (Handing::Rows, select, start, end),
-        Stmt::Extract { select, start, end } => (Handing::Records, select, start, end),
-        Stmt::Ask { select, start, end } => (Handing::Cursor, select, start, end),
+        Stmt::Select { select, start, end } => (AnswerForm::Rows, select, start, end),
+        Stmt::Extract { select, start, end } => (AnswerForm::Records, select, start, end),
+        Stmt::Ask { select, start, end } => (AnswerForm::Cursor, select, start, end),
         _ => return None,
     };
     Some(WrittenQuestion {
@@ -116,7 +116,7 @@ fn asker<W: WorldView>(world: &W, session: u8) -> Result<&Session, Refusal>
 // The query that a select means.
 fn meaning(alloc: Global, state: &State, select: &RawSelect) -> Result<Boxed<Query>, Refusal>
     requires { IsSound state.now }
-    ensures found { (history : History) → StandsFor state.now history
+    ensures found { (history : History) → Represents state.now history
         → Finds (λ query. query)
         (unless_refused (select_refused (known_at history) select.now)
         (query_of (known_at history) select.now)) result }
@@ -141,7 +141,7 @@ fn cursor_number(number: usize) -> Result<Delivery, Refusal>
 }
 
 fn free_cursor(asker: &Session) -> Result<Delivery, Refusal>
-    ensures { Finds (λ delivery. delivery) (delivery_for Handing.Cursor asker.now) result }
+    ensures { Finds (λ delivery. delivery) (delivery_for AnswerForm.Cursor asker.now) result }
 {
     match asker.cursors.free() {
         Some(number) => cursor_number(number),
@@ -150,19 +150,19 @@ fn free_cursor(asker: &Session) -> Result<Delivery, Refusal>
 }
 
 // How the answer is delivered.
-fn delivery_for(handing: Handing, asker: &Session) -> Result<Delivery, Refusal>
+fn delivery_for(handing: AnswerForm, asker: &Session) -> Result<Delivery, Refusal>
     ensures { Finds (λ delivery. delivery) (delivery_for handing asker.now) result }
 {
     match handing {
-        Handing::Rows => Ok(Delivery::Rows),
-        Handing::Records => Ok(Delivery::Records),
-        Handing::Cursor => free_cursor(asker),
+        AnswerForm::Rows => Ok(Delivery::Rows),
+        AnswerForm::Records => Ok(Delivery::Records),
+        AnswerForm::Cursor => free_cursor(asker),
     }
 }
 
 // How the answer is delivered, if the history has room for one more entry.
 fn delivery_in_room(
-    handing: Handing,
+    handing: AnswerForm,
     asker: &Session,
     count: u64,
     limit: u32,
@@ -202,7 +202,7 @@ fn question<'a, W: WorldView>(
     text: &'a str,
 ) -> Result<Asking<'a>, Refusal>
     requires { IsSound state.now }
-    ensures found { (history : History) → StandsFor state.now history → Finds (deed_asked session)
+    ensures found { (history : History) → Represents state.now history → Finds (deed_asked session)
         (judged_question written.now.handing history (W.seen world.now) (speaker.Session session)
         written.now.select.now text.now)
         result }

@@ -4,7 +4,7 @@ ghost use Rattle.std.specs.List.{IsDistinct};
 ghost use Rattle.hippo_model.specs.Terms.{History};
 ghost use Rattle.hippo_audit_job.specs.Examining.{IsAuditOf};
 ghost use Rattle.hippo_report.specs.declared.speaker.Speaker.TheVariants.{Console};
-ghost use Rattle.hippo_replay.specs.Standing.{StandsFor, IsSound};
+ghost use Rattle.hippo_replay.specs.Standing.{Represents, IsSound};
 ghost use Rattle.hippo_typing_catalog.specs.AuditExpressions.{audit_refused, audit_of};
 ghost use Rattle.hippo_stmt_lines.specs.Moments.{period_in};
 ghost use Rattle.hippo_engine_checks.specs.Checks.{Finds, unless_refused};
@@ -43,9 +43,9 @@ pub(crate) fn audit_in(
     written: &RawAudit,
 ) -> Result<Boxed<Audit>, Refusal>
     requires sound { IsSound state.now }
-    ensures found { (history : History) → StandsFor state.now history
+    ensures found { (history : History) → Represents state.now history
         → Finds (λ audit. audit) (audit_in history Console written.now) result }
-    ensures audit { IfOk result (λ audit. (history : History) → StandsFor state.now history
+    ensures audit { IfOk result (λ audit. (history : History) → Represents state.now history
         → IsAuditOf history audit) }
     ensures differ { IfOk result (λ audit. IsDistinct bytes_eq audit.tables) }
 {

@@ -6,7 +6,7 @@ ghost use Rattle.hippo_model.specs.Terms.{History};
 ghost use Rattle.hippo_tables.specs.Finished.{finished_act};
 ghost use Rattle.hippo_tables.specs.Standing.{TablesStandFor};
 ghost use Rattle.hippo_report.specs.declared.speaker.Speaker.TheVariants.{Console};
-ghost use Rattle.hippo_replay.specs.Standing.{StandsFor, MayFollow, IsTimely};
+ghost use Rattle.hippo_replay.specs.Standing.{Represents, MayFollow, IsTimely};
 ghost use Rattle.hippo_typing_laws.specs.Written.{is_written};
 ghost use Rattle.hippo_engine_checks.specs.Checks.{Finds, rows_refusal, act_made};
 ghost use Rattle.hippo_engine_checks.specs.Judging.{judged_wanted, judged_change};
@@ -90,7 +90,7 @@ fn entry_wanted<W: WorldView>(
     world: &W,
     wanted: Wanted,
 ) -> Result<Boxed<Entry>, Refusal>
-    ensures found { (history : History) → StandsFor state.now history
+    ensures found { (history : History) → Represents state.now history
         → FindsChange history (W.seen world.now)
         (judged_wanted history (W.seen world.now) wanted) result }
     ensures number { IfOk result (λ entry. entry.seq < 2 ^ 63) }
@@ -109,7 +109,7 @@ fn entry_for<W: WorldView>(
     world: &W,
     statement: &Stmt,
 ) -> Result<Boxed<Entry>, Refusal>
-    ensures found { (history : History) → StandsFor state.now history
+    ensures found { (history : History) → Represents state.now history
         → FindsChange history (W.seen world.now)
         (judged_change history (W.seen world.now) Console statement.now) result }
     ensures number { IfOk result (λ entry. entry.seq < 2 ^ 63) }
@@ -132,7 +132,7 @@ pub(crate) fn entry_of_change<W: WorldView>(
 ) -> Result<Boxed<Entry>, Refusal>
     requires timely { IsTimely state.now (W.seen world.now).clock }
     requires written { is_written statement.now ≡ true }
-    ensures found { (history : History) → StandsFor state.now history
+    ensures found { (history : History) → Represents state.now history
         → FindsChange history (W.seen world.now)
         (judged_change history (W.seen world.now) Console statement.now) result }
     ensures number { IfOk result (λ entry. entry.seq < 2 ^ 63) }

@@ -2,7 +2,7 @@
 ghost use Rattle.std.specs.Prelude.{◌≡◌, ◌≤◌, length, MatchResult, IfErr, Err as Bad};
 ghost use Rattle.hippo_report.specs.Refusals.{refusal_line};
 ghost use Rattle.hippo_report.specs.declared.speaker.Speaker.TheVariants.{Console};
-ghost use Rattle.hippo_engine_checks.specs.Checks.{held_watch, job_at, StandsJob, reply_room};
+ghost use Rattle.hippo_engine_checks.specs.Checks.{held_watch, job_at, HasJob, reply_room};
 
 use hippo_engine_sessions::WorldView;
 use hippo_report::Refusal;
@@ -22,7 +22,7 @@ pub(crate) fn held_watch<W: WorldView>(world: &W, number: u8) -> Result<(), Refu
 
 /// Checks that a job has this number. If none has, the call returns `NoJob`, whose reply is short.
 pub(crate) fn check_job<W: WorldView>(world: &W, number: u8) -> Result<(), Refusal>
-    ensures found { MatchResult result (λ passed. StandsJob (W.seen world.now) number)
+    ensures found { MatchResult result (λ passed. HasJob (W.seen world.now) number)
         (λ refusal. job_at (W.seen world.now) number ≡ Bad refusal) }
     ensures fits { IfErr result (λ refusal. length (refusal_line Console refusal) ≤ reply_room) }
 {

@@ -4,7 +4,7 @@ ghost use Rattle.hippo_keeper.specs.Keeping.{IsReady};
 ghost use Rattle.hippo_stmt_lines.specs.Commands as commands;
 ghost use Rattle.hippo_stmt_lines.specs.LentCommands.{command};
 ghost use Rattle.hippo_replay.specs.Standing.{IsSound, IsTimely};
-ghost use Rattle.hippo_engine_checks.specs.Findings.{IsOfLine, Judges, is_still};
+ghost use Rattle.hippo_engine_checks.specs.Findings.{IsOfLine, Judges, reads_nothing};
 
 use crate::deeds::{Deed, Unjudged};
 use crate::requests::{judge_clock, judge_request};
@@ -49,8 +49,8 @@ pub fn judge<'t, P: Keeper, L: Ledger, W: WorldView>(
         (P.state keeper.old)
         (P.state keeper.new)
         steps.old steps.new }
-    ensures still { is_still result ≡ true → keeper.new ≡ keeper.old }
-    ensures idle { is_still result ≡ true → steps.new ≡ steps.old }
+    ensures still { reads_nothing result ≡ true → keeper.new ≡ keeper.old }
+    ensures idle { reads_nothing result ≡ true → steps.new ≡ steps.old }
 {
     match found {
         Command::Nothing => Ok(Deed::DoNothing),

@@ -14,6 +14,6 @@ mod requests;
 mod session_checks;
 mod statements;
 
-pub use asking::{Asking, Delivery, Handing, WrittenQuestion};
+pub use asking::{AnswerForm, Asking, Delivery, WrittenQuestion};
 pub use deeds::{Deed, Question, Unjudged};
 pub use judging::{judge, who_commands};

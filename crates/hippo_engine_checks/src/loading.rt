@@ -11,7 +11,7 @@ ghost use Rattle.hippo_csv.specs.declared.faults.CsvFault.TheVariants as fields;
 ghost use Rattle.hippo_csv.specs.Loading.{row_of_fields};
 ghost use Rattle.hippo_typing_laws.specs.Written.{is_typed, is_written};
 ghost use Rattle.hippo_report.specs.declared.speaker.Speaker.TheVariants.{Console};
-ghost use Rattle.hippo_replay.specs.Standing.{StandsFor, MayFollow, IsTimely};
+ghost use Rattle.hippo_replay.specs.Standing.{Represents, MayFollow, IsTimely};
 ghost use Rattle.hippo_report.specs.declared.refusal.Refusal.TheVariants.{Memory as NoMemory};
 ghost use Rattle.hippo_report.specs.declared.refusal.Refusal.TheVariants as refusals;
 ghost use Rattle.hippo_engine_checks.specs.Checks.{Finds};
@@ -180,7 +180,7 @@ pub(crate) fn entry_of_record<W: WorldView>(
     loaded: &Record<'_>,
 ) -> Result<Boxed<Entry>, Refusal>
     requires timely { IsTimely state.now (W.seen world.now).clock }
-    ensures found { (history : History) → StandsFor state.now history
+    ensures found { (history : History) → Represents state.now history
         → FindsChange history (W.seen world.now)
         (judged_load history (W.seen world.now) Console loaded.now.table.now loaded.now.text.now)
         result }

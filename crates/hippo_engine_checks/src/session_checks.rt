@@ -2,7 +2,7 @@
 ghost use Rattle.std.specs.Prelude.{◌≡◌, ◌≤◌, Some, length, ok_or, IfErr};
 ghost use Rattle.std.specs.Result.{result_map_both};
 ghost use Rattle.hippo_model.specs.Terms.{History};
-ghost use Rattle.hippo_replay.specs.Standing.{StandsFor};
+ghost use Rattle.hippo_replay.specs.Standing.{Represents};
 ghost use Rattle.hippo_report.specs.declared.refusal.Refusal.TheVariants.{NoCursor as CursorMissing};
 ghost use Rattle.hippo_report.specs.Refusals.{refusal_line};
 ghost use Rattle.hippo_report.specs.declared.speaker.Speaker.TheVariants as speaker;
@@ -71,7 +71,7 @@ fn check_closed<W: WorldView>(world: &W, number: u8) -> Result<(), Refusal>
 
 /// Checks that a user may ask for a purpose and recipient.
 pub(crate) fn check_allowed(state: &State, user: &Name, pair: &Pair) -> Result<(), Refusal>
-    ensures { (history : History) → StandsFor state.now history → result
+    ensures { (history : History) → Represents state.now history → result
         ≡ by_authorized_user history user.now pair.now }
 {
     let word = state
@@ -92,7 +92,7 @@ pub(crate) fn check_login<W: WorldView>(
     user: &Name,
     pair: &Pair,
 ) -> Result<(), Refusal>
-    ensures { (history : History) → StandsFor state.now history
+    ensures { (history : History) → Represents state.now history
         → result ≡ may_log_in history (W.seen world.now) number user.now pair.now }
 {
     match check_closed(world, number) {

@@ -12,7 +12,7 @@ ghost use Rattle.hippo_replay.specs.declared.state.State.{State as HeldState};
 ghost use Rattle.hippo_report.specs.declared.refusal.Refusal.TheVariants as refusals;
 ghost use Rattle.hippo_engine_sessions.specs.Worlds.{World};
 ghost use Rattle.hippo_engine_checks.specs.declared.deeds.Deed.TheVariants as kinds;
-ghost use Rattle.hippo_engine_checks.specs.Findings.{IsOfLine, IsRefused, FindsDeed, begins, limit_of, begun_at, begun_with, free_to_begin, without_reading, Judges, is_still};
+ghost use Rattle.hippo_engine_checks.specs.Findings.{IsOfLine, IsRefused, FindsDeed, begins, limit_of, begun_at, begun_with, free_to_begin, without_reading, Judges, reads_nothing};
 
 use crate::asking::{judge_question, written_question};
 use crate::audits::audit_in;
@@ -158,7 +158,7 @@ fn look_up<P: Keeper, L: Ledger>(
     ensures judges { (text : Text) (world : World)
         → Judges (commands.make_statement Console (stmt.Explain number.now) text) result
         state.now world (P.state keeper.old) (P.state keeper.new) steps.old steps.new }
-    ensures looks { is_still result ≡ false }
+    ensures looks { reads_nothing result ≡ false }
 {
     match question_at(alloc, keeper, state, number, steps) {
         Ok(Some(entry)) => Ok(Deed::Explain { entry }),
@@ -205,8 +205,8 @@ fn statement_of_console<P: Keeper, L: Ledger, W: WorldView>(
         → Judges (commands.make_statement Console statement.now text) result state.now
         (W.seen world.now)
         (P.state keeper.old) (P.state keeper.new) steps.old steps.new }
-    ensures still { is_still result ≡ true → keeper.new ≡ keeper.old }
-    ensures idle { is_still result ≡ true → steps.new ≡ steps.old }
+    ensures still { reads_nothing result ≡ true → keeper.new ≡ keeper.old }
+    ensures idle { reads_nothing result ≡ true → steps.new ≡ steps.old }
 {
     match statement {
         Stmt::Explain(number) => look_up(alloc, state, keeper, number, steps),
@@ -262,8 +262,8 @@ pub(crate) fn judge_statement<'t, P: Keeper, L: Ledger, W: WorldView>(
     ensures judges { Judges (commands.make_statement who statement.now text.now) result
         state.now (W.seen world.now)
         (P.state keeper.old) (P.state keeper.new) steps.old steps.new }
-    ensures still { is_still result ≡ true → keeper.new ≡ keeper.old }
-    ensures idle { is_still result ≡ true → steps.new ≡ steps.old }
+    ensures still { reads_nothing result ≡ true → keeper.new ≡ keeper.old }
+    ensures idle { reads_nothing result ≡ true → steps.new ≡ steps.old }
 {
     match who {
         Speaker::Session(session) => {

@@ -18,7 +18,7 @@ use Rattle.hippo_stmt_lines.specs.Commands.{Command, nothing, wrong, make_reques
 use Rattle.hippo_stmt_lines.specs.Commands as commands
 use Rattle.hippo_engine_checks.specs.declared.asking.Delivery.{Delivery}
 use Rattle.hippo_engine_checks.specs.declared.asking.Delivery.TheVariants as delivered
-use Rattle.hippo_engine_checks.specs.declared.asking.Handing.TheVariants.{Rows, Records, Cursor}
+use Rattle.hippo_engine_checks.specs.declared.asking.AnswerForm.TheVariants.{Rows, Records, Cursor}
 use Rattle.hippo_engine_checks.specs.Deeds.{Deed, Question}
 use Rattle.hippo_engine_checks.specs.Deeds as deeds
 use Rattle.hippo_engine_checks.specs.Checks.{Checked, refused_if, by_console, question_at}

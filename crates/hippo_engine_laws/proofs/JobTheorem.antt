@@ -22,7 +22,7 @@ use Rattle.hippo_engine_checks.specs.Deeds.{Deed}
 use Rattle.hippo_engine_checks.specs.Deeds as deeds
 use Rattle.hippo_engine_checks.specs.Checks.{Checked}
 use Rattle.hippo_engine_checks.specs.Judging.{judged}
-use Rattle.hippo_engine_rules.specs.Effects.{Effect, deed_effect, judgement_effect, row_limit, question_rows, only_reply, flag_lines, step_flags, job_up_to, with_job, new_open_audit, IsShort, IsEffect}
+use Rattle.hippo_engine_rules.specs.Effects.{Effect, deed_effect, judgement_effect, row_limit, question_rows, only_reply, flag_lines, step_flags, job_up_to, with_job, new_open_audit, IsOutOfMemory, IsEffect}
 use Rattle.hippo_engine_rules.specs.Runs.{IsRun, world_after}
 use Rattle.hippo_engine_laws.specs.Lines.{OfEachLine, NoneJudged}
 use Rattle.hippo_engine_laws.specs.Jobs.{Portion, no_portion, JudgedWrites, WritesPortion, flags_in, last_end, HaveAllFlags}
@@ -249,7 +249,7 @@ module _ (start : History) (valid : is_valid meaning start ≡ true) (audit : Au
   carried portions history world command goes (Ok deed) fits kept = (no_portion, refl, still portions history world (deed_effect history world deed) goes refl)
 
   short : (portions : List Portion) (history : History) (world : World) (command : Command) → Goes portions history world → (judgement : Checked Deed) → IsFounded world judgement
-      → (effect : Effect) → IsShort history world (refusal_line (who_commands command) Memory) judgement effect → After portions history world command judgement effect
+      → (effect : Effect) → IsOutOfMemory history world (refusal_line (who_commands command) Memory) judgement effect → After portions history world command judgement effect
   short portions history world command goes (Ok (deeds.step_job at job count)) fits effect is =
       subst (After portions history world command (Ok (deeds.step_job at job count))) (sym is.is)
       (step_short portions history world command goes at job count is.upto fits is.from is.to (same_or_not at number))

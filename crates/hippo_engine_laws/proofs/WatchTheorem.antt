@@ -20,7 +20,7 @@ use Rattle.hippo_engine_checks.specs.Deeds.{Deed, Question, question_act, next_e
 use Rattle.hippo_engine_checks.specs.Deeds as deeds
 use Rattle.hippo_engine_checks.specs.Checks.{Checked}
 use Rattle.hippo_engine_checks.specs.Judging.{judged}
-use Rattle.hippo_engine_rules.specs.Effects.{Effect, row_limit, question_rows, alarm_line, question_effect, world_with_cursor, deed_effect, judgement_effect, IsShort, IsEffect}
+use Rattle.hippo_engine_rules.specs.Effects.{Effect, row_limit, question_rows, alarm_line, question_effect, world_with_cursor, deed_effect, judgement_effect, IsOutOfMemory, IsEffect}
 use Rattle.hippo_engine_rules.specs.Runs.{IsRun}
 use Rattle.hippo_engine_laws.specs.Lines.{NoneJudged}
 use Rattle.hippo_engine_laws.specs.Watches.{alarm_of, alarm_texts, answer_to, question_answered, Heard, DeedHeard, JudgedHeard, flags_at, HasHeard}
@@ -150,7 +150,7 @@ module _ (audit : Audit) (number : ℕ) where
   carried history world command stands (Ok deed) fits kept = (None, refl, λ later. tt, stands)
 
   short : (history : History) (world : World) (command : Command) → at_number world.watches number ≡ Some audit → (judgement : Checked Deed)
-      → (effect : Effect) → IsShort history world (refusal_line (who_commands command) Memory) judgement effect → After history world command judgement effect
+      → (effect : Effect) → IsOutOfMemory history world (refusal_line (who_commands command) Memory) judgement effect → After history world command judgement effect
   short history world command stands (Ok (deeds.step_job at job count)) effect is = (None, refl, λ later. tt, still world effect.world stands (ap (λ (e : Effect). e.world.watches) is.is))
   short history world command stands (Ok (deeds.answer_question question)) effect is = (None, inr (is.said, refl), λ later. tt, still world effect.world stands (ap (λ (w : World). w.watches) is.same))
   short history world command stands (Ok (deeds.open_cursor session at question)) effect is = (None, inr (is.said, refl), λ later. tt, still world effect.world stands (ap (λ (w : World). w.watches) is.same))

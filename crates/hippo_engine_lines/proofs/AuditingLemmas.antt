@@ -19,7 +19,7 @@ use Rattle.hippo_backlog.specs.declared.faults.ReadFault.{ReadFault}
 use Rattle.hippo_backlog.specs.declared.faults.ReadFault.TheVariants.{Keeper, Damaged, Memory}
 use Rattle.hippo_keeper.proofs.CallLemmas.{IsAfterCall-as}
 use Rattle.hippo_audit_job.specs.Examining.{IsAuditOf}
-use Rattle.hippo_replay.specs.Standing.{StandsFor}
+use Rattle.hippo_replay.specs.Standing.{Represents}
 use Rattle.hippo_report.specs.declared.speaker.Speaker.{Speaker}
 use Rattle.hippo_report.specs.declared.speaker.Speaker.TheVariants.{Console}
 use Rattle.hippo_report.specs.declared.format.Format.{Format}
@@ -97,7 +97,7 @@ module _ (text : Txt) (written : RawAudit) (audit : Audit) (old new : Engine) (b
   audits = make_statement Console (stmt.Audit written) text
 
   pub Carries-audit_effect : (result : Result (Unit {0}) EngineFault) → AtWork old before → IsJudged audits old.state (world_of old.world) (Ok (deeds.audit audit))
-      → ((history : History) → StandsFor old.state history → IsAuditOf history audit)
+      → ((history : History) → Represents old.state history → IsAuditOf history audit)
       → new.state ≡ old.state → new.world ≡ old.world → TellsFlags old.world.format audit old.state result new.reply before after steps steps'
       → Carries audits result old new before after steps steps'
   Carries-audit_effect result at_work does audit_is same_state same_world tells =

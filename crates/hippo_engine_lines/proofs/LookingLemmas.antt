@@ -5,7 +5,7 @@ use Rattle.hippo_model.specs.Terms.{History}
 use Rattle.hippo_model.specs.Versions.{versions}
 use Rattle.hippo_keeper.specs.Keeping.{KeeperState, IsAfterCall, KeepsSame}
 use Rattle.hippo_replay.specs.declared.state.State.{State}
-use Rattle.hippo_replay.specs.Standing.{StandsFor, IsSound}
+use Rattle.hippo_replay.specs.Standing.{Represents, IsSound}
 use Rattle.hippo_report.specs.declared.refusal.Refusal.{Refusal}
 use Rattle.hippo_report.specs.declared.refusal.Refusal.TheVariants.{NoSuchQuery}
 use Rattle.hippo_engine_world.specs.Holding.{world_of, JobsFit, WatchesFit, tallies_of}
@@ -46,7 +46,7 @@ Carries-looked command result old new before after steps steps' reads at_work sa
         is = looked.effect fine;
         reply = refl;
         world = refl;
-        holds = Holds-same history old new before after holds (subst (λ (held : State). StandsFor held history) (sym same) holds.stands) looked.jobs looked.watches keeps;
+        holds = Holds-same history old new before after holds (subst (λ (held : State). Represents held history) (sym same) holds.stands) looked.jobs looked.watches keeps;
         kept = keeps;
         counts = looked.counts fine;
         refused = looked.refused;

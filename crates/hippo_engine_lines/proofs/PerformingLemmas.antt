@@ -14,7 +14,7 @@ use Rattle.hippo_engine_checks.specs.declared.deeds.Deed.{Deed}
 use Rattle.hippo_engine_checks.specs.declared.deeds.Deed.TheVariants as kinds
 use Rattle.hippo_engine_checks.specs.declared.deeds.Unjudged.{Unjudged}
 use Rattle.hippo_engine_checks.specs.declared.deeds.Unjudged.TheVariants.{Refused, NoQuestion, Unread}
-use Rattle.hippo_engine_checks.specs.Findings.{Judges, is_still}
+use Rattle.hippo_engine_checks.specs.Findings.{Judges, reads_nothing}
 use Rattle.hippo_engine.specs.declared.engine.Engine.{Engine}
 use Rattle.hippo_engine_rules.specs.declared.faults.EngineFault.{EngineFault}
 use Rattle.hippo_engine.specs.Carrying.{AtWork, Carries}
@@ -32,7 +32,7 @@ module _ (command : Command) (old new : Engine) (before between after : KeeperSt
 
   -- a command is judged, and its deed is performed
   pub Carries-performed : (deed : Deed) (result : Result (Unit {0}) EngineFault) → Judges command (Ok deed) old.state (world_of old.world) before between start steps
-      → (is_still (Ok deed) ≡ true → between ≡ before) → (is_still (Ok deed) ≡ true → steps ≡ start) → Performs deed result old new between after steps steps'
+      → (reads_nothing (Ok deed) ≡ true → between ≡ before) → (reads_nothing (Ok deed) ≡ true → steps ≡ start) → Performs deed result old new between after steps steps'
       → Carries command result old new before after start steps'
   Carries-performed (kinds.Explain entry) result (number, looks) same idle performs = Carries-told command number entry result old new before between after start steps steps' at_work looks performs
   Carries-performed deed result does same idle performs = still_carries result (same refl) (idle refl) (performs command does)
@@ -40,7 +40,7 @@ module _ (command : Command) (old new : Engine) (before between after : KeeperSt
 -- or the reason for not doing it is in the reply
 pub Carries-refused : (command : Command) (who : Speaker) (unjudged : Unjudged) (result : Result (Unit {0}) EngineFault) (old new : Engine) (before after : KeeperState) (steps steps' : ℕ)
     → who ≡ who_commands command → AtWork old before → Judges command (Err unjudged) old.state (world_of old.world) before after steps steps'
-    → (is_still (Err unjudged) ≡ true → after ≡ before) → (is_still (Err unjudged) ≡ true → steps' ≡ steps) → SaysUnjudged who unjudged result old new
+    → (reads_nothing (Err unjudged) ≡ true → after ≡ before) → (reads_nothing (Err unjudged) ≡ true → steps' ≡ steps) → SaysUnjudged who unjudged result old new
     → Carries command result old new before after steps steps'
 Carries-refused command who (Refused refusal) result old new before after steps steps' who_is at_work refuses same idle says =
     subst (λ (r : Result (Unit {0}) EngineFault). Carries command r old new before after steps steps') (sym says.says.0)
@@ -67,7 +67,7 @@ AtWork-looked engine result before after at_work fine call stays = record {
 
 -- a judged deed can be performed
 pub AtWork-judged : (command : Command) (deed : Deed) (engine : Engine) (before after : KeeperState) (steps steps' : ℕ) → AtWork engine before
-    → Judges command (Ok deed) engine.state (world_of engine.world) before after steps steps' → (is_still (Ok deed) ≡ true → after ≡ before) → AtWork engine after
+    → Judges command (Ok deed) engine.state (world_of engine.world) before after steps steps' → (reads_nothing (Ok deed) ≡ true → after ≡ before) → AtWork engine after
 AtWork-judged command (kinds.Explain entry) engine before after steps steps' at_work (number, looks) same = AtWork-looked engine (Ok (Some entry)) before after at_work refl looks.looks.call looks.looks.stays
 AtWork-judged command deed engine before after steps steps' at_work does same = subst (λ (k : KeeperState). AtWork engine k) (sym (same refl)) at_work
 

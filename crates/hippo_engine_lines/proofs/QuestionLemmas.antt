@@ -14,7 +14,7 @@ use Rattle.hippo_keeper.specs.declared.faults.KeeperFault.TheVariants.{Failed, M
 use Rattle.hippo_keeper.specs.Keeping.{KeeperState}
 use Rattle.hippo_eval.specs.declared.answers.EvalFault.{EvalFault}
 use Rattle.hippo_replay.specs.declared.state.State.{State}
-use Rattle.hippo_replay.specs.Standing.{StandsFor, IsSound, IsTimely}
+use Rattle.hippo_replay.specs.Standing.{Represents, IsSound, IsTimely}
 use Rattle.hippo_replay.proofs.StateLemmas.{latest_moment-append}
 use Rattle.hippo_keeper.proofs.CallLemmas.{IsAfterCall-as}
 use Rattle.hippo_keeper.proofs.Results.{ok_of, err_of, well}
@@ -35,7 +35,7 @@ use Rattle.hippo_engine_checks.specs.declared.asking.Delivery.TheVariants as del
 use Rattle.hippo_engine_checks.specs.Checks.{Checked}
 use Rattle.hippo_engine_checks.specs.Deeds.{Deed, Question, question_act, next_entry}
 use Rattle.hippo_engine_checks.specs.Judging.{deed_for, judged}
-use Rattle.hippo_engine_rules.specs.Effects.{Effect, only_reply, row_limit, question_rows, within_limit, question_effect, deed_effect, effect_of, IsShortAnswer, IsShort, IsEffect}
+use Rattle.hippo_engine_rules.specs.Effects.{Effect, only_reply, row_limit, question_rows, within_limit, question_effect, deed_effect, effect_of, IsShortAnswer, IsOutOfMemory, IsEffect}
 use Rattle.hippo_engine_checks.specs.Findings.{may_do_nothing}
 use Rattle.hippo_engine_checks.specs.declared.deeds.Question.{Question as AskedQuestion}
 use Rattle.hippo_engine_checks.specs.Findings.{IsJudged, question_by}
@@ -49,7 +49,7 @@ use Rattle.hippo_engine_audits.specs.Watching.{alarms_now}
 use Rattle.hippo_engine_rules.proofs.ShortLemmas.{takes_some, short, done_for}
 
 -- the entry of a question is the next one
-next_is : (history : History) (held : State) (world : HeldWorld) (question : Question) → StandsFor held history
+next_is : (history : History) (held : State) (world : HeldWorld) (question : Question) → Represents held history
     → question_entry held world.clock question ≡ next_entry history (world_of world) (question_act question)
 next_is history held world question stands =
     let number : held.count + 1 ≡ length history + 1 = ap (λ (n : ℕ). n + 1) stands.count in
@@ -58,7 +58,7 @@ next_is history held world question stands =
 -- a deed that asks a question, has this reply for its rows, and leaves this world
 record IsQuestion (world : World) (deed : Deed) (question : Question) (said : List ShownRow → Txt) (left : List ShownRow → World) : Type 0 where
   effect : (history : History) → deed_effect history world deed ≡ question_effect history world question (said (question_rows history world question)) (left (question_rows history world question))
-  short : (history : History) (reply : Txt) (result : Effect) → IsShortAnswer history world reply question result → IsShort history world reply (Ok deed) result
+  short : (history : History) (reply : Txt) (result : Effect) → IsShortAnswer history world reply question result → IsOutOfMemory history world reply (Ok deed) result
 
 -- the reply is the out-of-memory refusal, and the world is the same
 record SaysShort (command : Command) (old new : Engine) : Type 0 where
@@ -72,19 +72,19 @@ record SaysSo (new : Engine) (said : List ShownRow → Txt) (left : List ShownRo
 
 module _ (command : Command) (deed : Deed) (question : Question) (said : List ShownRow → Txt) (left : List ShownRow → World) (old new : Engine) (before after : KeeperState) (steps : ℕ)
     (takes : may_do_nothing command ≡ true) (sound : IsSound old.state) (timely : IsTimely old.state old.world.clock) (same_audits : KeepsAudits old.world new.world)
-    (judged_is : (history : History) → StandsFor old.state history → judged history (world_of old.world) command ≡ Ok deed)
+    (judged_is : (history : History) → Represents old.state history → judged history (world_of old.world) command ≡ Ok deed)
     (asks : IsQuestion (world_of old.world) deed question said left) where
   abbrev entry : Entry
   entry = question_entry old.state old.world.clock question
 
-  effect_is : (history : History) → StandsFor old.state history
+  effect_is : (history : History) → Represents old.state history
       → effect_of history (world_of old.world) command ≡ question_effect history (world_of old.world) question (said (question_rows history (world_of old.world) question)) (left (question_rows history (world_of old.world) question))
   effect_is history stands = done_for history (world_of old.world) command deed (judged_is history stands) ∙ asks.effect history
 
   abbrev shown : Effect
   shown = record { reply = new.reply; added = entry ∷ []; world = world_of new.world }
 
-  has_effect : (history : History) → StandsFor old.state history
+  has_effect : (history : History) → Represents old.state history
       → SaysSo new said left (alarms_now history (world_of old.world) question) (question_rows history (world_of old.world) question) ⊎ SaysShort command old new
       → IsEffect history (world_of old.world) command shown
   has_effect history stands (inl so) =
@@ -95,12 +95,12 @@ module _ (command : Command) (deed : Deed) (question : Question) (said : List Sh
   has_effect history stands (inr none) =
       let line : Txt = refusal_line (who_commands command) Memory in
       let next = next_is history old.state old.world question stands in
-      let so : IsShort history (world_of old.world) line (Ok deed) shown = asks.short history line shown (record { said = none.said; kept = inr (λ i. next i ∷ []); same = none.same }) in
-      inr (takes_some command takes, subst (λ (judgement : Checked Deed). IsShort history (world_of old.world) line judgement shown) (sym (judged_is history stands)) so)
+      let so : IsOutOfMemory history (world_of old.world) line (Ok deed) shown = asks.short history line shown (record { said = none.said; kept = inr (λ i. next i ∷ []); same = none.same }) in
+      inr (takes_some command takes, subst (λ (judgement : Checked Deed). IsOutOfMemory history (world_of old.world) line judgement shown) (sym (judged_is history stands)) so)
 
   -- the question was stored and answered
   Carries-kept : (delivery : Delivery) (answer : Result Answered EvalFault) → new.world.clock ≡ old.world.clock → Asks entry (world_of old.world) question delivery (ok_of KeeperFault answer) old.state new.state before after
-      → ((history : History) → StandsFor old.state history → WatchesFit history old.world → (rows : List ShownRow) → IsAnsweredBy question.session answer delivery rows
+      → ((history : History) → Represents old.state history → WatchesFit history old.world → (rows : List ShownRow) → IsAnsweredBy question.session answer delivery rows
       → SaysSo new said left (alarms_now history (world_of old.world) question) rows ⊎ SaysShort command old new)
       → Carries {A = Unit {0}} command (Ok tt) old new before after steps steps
   Carries-kept delivery answer clock kept says = record {
@@ -141,7 +141,7 @@ module _ (command : Command) (deed : Deed) (question : Question) (said : List Sh
       is = short history (world_of old.world) command takes;
       reply = none.said;
       world = none.same;
-      holds = Holds-same history old new before after holds (subst (λ (held : State). StandsFor held history) (sym kept.same) holds.stands)
+      holds = Holds-same history old new before after holds (subst (λ (held : State). Represents held history) (sym kept.same) holds.stands)
           (JobsFit-same history old.world new.world same_audits holds.jobs) (WatchesFit-same history old.world new.world same_audits holds.watches) (kept.keeps.same refl tells);
       kept = kept.keeps.same refl tells;
       counts = none_taken refl (tallies_of-same old.world new.world same_audits);
@@ -216,16 +216,16 @@ module _ (session : ℕ) (asks_it : Command) (asked_for : Asking) (who : who_com
   -- the watches' alarms, for every history that the state represents
   abbrev AreAlarms : Result Txt NoMemory → Type 0
   AreAlarms alarms =
-      IfOk alarms (λ said. (number : ℕ) (history : History) → StandsFor old.state history → WatchesFit history old.world
+      IfOk alarms (λ said. (number : ℕ) (history : History) → Represents old.state history → WatchesFit history old.world
       → said ≡ alarms_now history (world_of old.world) (question_of number asked_for))
 
-  of_history : (alarms : Result Txt NoMemory) → AreAlarms alarms → (history : History) → StandsFor old.state history → WatchesFit history old.world
+  of_history : (alarms : Result Txt NoMemory) → AreAlarms alarms → (history : History) → Represents old.state history → WatchesFit history old.world
       → IfOk alarms (λ said. said ≡ alarms_now history (world_of old.world) question)
   of_history (Ok said) are history stands fit = are session history stands fit
   of_history (Err fault) are history stands fit = tt
 
   pub Carries-question : session_at (world_of old.world) session ≡ Some asked_for.asker.now
-      → ((history : History) → StandsFor old.state history → judged history (world_of old.world) asks_it ≡ Ok (deed_asked session asked_for))
+      → ((history : History) → Represents old.state history → judged history (world_of old.world) asks_it ≡ Ok (deed_asked session asked_for))
       → (kept : KeptAnswer) → Asks (question_entry old.state old.world.clock question) (world_of old.world) question asked_for.delivery kept old.state new.state before after
       → (alarms : Result Txt NoMemory) → AreAlarms alarms
       → (result : Result (Unit {0}) EngineFault) → Replies session asked_for.delivery alarms kept result new.reply (world_of old.world) (world_of new.world)

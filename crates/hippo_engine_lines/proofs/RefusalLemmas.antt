@@ -2,7 +2,7 @@
 use Rattle.std.proofs.Common.{◌≡◌, ◌⊎◌, ◌∙◌, ◌≤◌, inl, inr, refl, sym, ap, subst, Bool, length, true, false}
 use Rattle.hippo_values.specs.Texts.{Txt}
 use Rattle.hippo_model.specs.Terms.{History}
-use Rattle.hippo_replay.specs.Standing.{StandsFor}
+use Rattle.hippo_replay.specs.Standing.{Represents}
 use Rattle.hippo_report.specs.declared.speaker.Speaker.{Speaker}
 use Rattle.hippo_report.specs.declared.refusal.Refusal.{Refusal}
 use Rattle.hippo_report.specs.declared.refusal.Refusal.TheVariants as refusals
@@ -47,7 +47,7 @@ quiet_refusal command who refusal old new who_is is state_is world_is says = rec
         (short history (world_of old.world) command takes)
     replied history takes why (inr told) = as_said history refusals.Memory told (short history (world_of old.world) command takes)
 
-    by_memory : (takes : Bool) → may_do_nothing command ≡ takes → (history : History) → StandsFor old.state history
+    by_memory : (takes : Bool) → may_do_nothing command ≡ takes → (history : History) → Represents old.state history
         → IsEffect history (world_of old.world) command (only_reply (world_of old.world) new.reply)
     by_memory true takes history stands = replied history takes (is.refuses history stands) says.0
     by_memory false none history stands =

@@ -21,7 +21,7 @@ use Rattle.hippo_audit_job.specs.Jobs.{OpenAudit, open_audit, step_end, LooksOve
 use Rattle.hippo_audit_job.proofs.JobLemmas.{taken_within}
 use Rattle.hippo_audit_job.proofs.LoopLemmas.{and_done, and_failed}
 use Rattle.hippo_combine.specs.Combining.{combine_terms}
-use Rattle.hippo_replay.specs.Standing.{StandsFor}
+use Rattle.hippo_replay.specs.Standing.{Represents}
 use Rattle.hippo_report.specs.declared.speaker.Speaker.TheVariants.{Console}
 use Rattle.hippo_report.specs.declared.format.Format.{Format}
 use Rattle.hippo_report.specs.declared.refusal.Refusal.{Refusal}
@@ -44,7 +44,7 @@ use Rattle.hippo_engine_checks.specs.Checks.{Checked}
 use Rattle.hippo_engine.specs.Carrying.{AtWork, line_as_call, is_carried, shown_effect, Carries}
 use Rattle.hippo_engine_checks.specs.Deeds.{Deed}
 use Rattle.hippo_engine_checks.specs.Deeds as deeds
-use Rattle.hippo_engine_rules.specs.Effects.{Effect, only_reply, effect_of, job_step_effect as stepped, step_flags, step_line, job_up_to, with_job, IsShort, IsShortStep, IsEffect}
+use Rattle.hippo_engine_rules.specs.Effects.{Effect, only_reply, effect_of, job_step_effect as stepped, step_flags, step_line, job_up_to, with_job, IsOutOfMemory, IsShortStep, IsEffect}
 use Rattle.hippo_engine_audits.specs.Stepping.{progress_line, step_text, TellsStep}
 use Rattle.hippo_engine_checks.specs.Judging.{judged}
 use Rattle.hippo_engine_rules.specs.Ledgers.{job_stepped}
@@ -165,7 +165,7 @@ module _ (number count : ℕ) (past : Past) (looked : Result (Unit {0}) ReadFaul
           to = held.stepped.looks.limit;
           is = λ i. only_reply (worlds i) (said i);
         } in
-        inr (refl, subst (λ (judgement : Checked Deed). IsShort history world line judgement (shown_effect new)) (sym (judged_is history)) so)
+        inr (refl, subst (λ (judgement : Checked Deed). IsOutOfMemory history world line judgement (shown_effect new)) (sym (judged_is history)) so)
 
     -- what was found is in the reply
     whole_step : held.mid.place ≡ upto → held.told ≡ record (held.mid) { waiting = [] } → new.reply ≡ step_text old.world.format held.mid → IsEffect history world steps_it (shown_effect new)
@@ -200,7 +200,7 @@ module _ (number count : ℕ) (past : Past) (looked : Result (Unit {0}) ReadFaul
   unrefused history refusal refuses = let both : ◌≡◌ {A = Checked Deed} (Ok (deeds.step_job number job count)) (Err refusal) = sym (judged_is history) ∙ refuses in absurd cc
 
   -- `step` at the console
-  pub Carries-job_step_effect : (result : Result (Unit {0}) EngineFault) → result ≡ reading_end looked → AtWork old before → ((history : History) → StandsFor old.state history → IsPastOf past history)
+  pub Carries-job_step_effect : (result : Result (Unit {0}) EngineFault) → result ≡ reading_end looked → AtWork old before → ((history : History) → Represents old.state history → IsPastOf past history)
       → Carries steps_it result old new before after steps steps'
   Carries-job_step_effect result ends at_work is_past =
       subst (λ (r : Result (Unit {0}) EngineFault). Carries steps_it r old new before after steps steps') (sym ends)

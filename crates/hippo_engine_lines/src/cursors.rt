@@ -10,7 +10,7 @@ ghost use Rattle.hippo_engine_lines.specs.Performing.{MayDo};
 
 use hippo_engine::Engine;
 use hippo_engine_audits::print_next;
-use hippo_engine_rules::refuse_for_memory;
+use hippo_engine_rules::refuse_out_of_memory;
 use hippo_engine_sessions::{Cursor, WorldView};
 use hippo_engine_world::World;
 use hippo_report::Speaker;
@@ -40,7 +40,7 @@ pub(crate) fn hand_out(engine: &mut Engine, session: u8, cursor: u8, count: u32)
     match cursor_at(&engine.world, session, cursor) {
         Some(held) => match print_next(session, held, count, &mut engine.reply) {
             Ok(()) => engine.world.move_on(session, cursor, count),
-            Err(Memory) => refuse_for_memory(Speaker::Session(session), &mut engine.reply),
+            Err(Memory) => refuse_out_of_memory(Speaker::Session(session), &mut engine.reply),
         },
         None => unreachable!(),
     }

@@ -5,7 +5,7 @@ ghost use Rattle.hippo_report.specs.declared.speaker.Speaker.TheVariants.{Consol
 ghost use Rattle.hippo_stmt_lines.specs.Commands.{make_request};
 ghost use Rattle.hippo_engine_rules.specs.declared.faults.EngineFault.TheVariants.{Write as WriteFailed};
 ghost use Rattle.hippo_engine_world.specs.Holding.{world_of};
-ghost use Rattle.hippo_engine_checks.specs.Checks.{StandsJob};
+ghost use Rattle.hippo_engine_checks.specs.Checks.{HasJob};
 ghost use Rattle.hippo_engine.specs.Carrying.{AtWork, Carries};
 
 use hippo_audit_job::Past;
@@ -29,7 +29,7 @@ pub(crate) fn step_job<P: Keeper, L: Ledger>(
     steps: &mut Steps<L>,
 ) -> Result<(), EngineFault>
     requires at_work { AtWork engine.old (P.state keeper.old) }
-    requires there { StandsJob (world_of engine.old.world) number }
+    requires there { HasJob (world_of engine.old.world) number }
     ensures carries { Carries (make_request Console (requests.steps number count)) result
         engine.old engine.new
         (P.state keeper.old) (P.state keeper.new) steps.old steps.new }

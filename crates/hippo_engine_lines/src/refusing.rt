@@ -6,7 +6,7 @@ ghost use Rattle.hippo_engine_lines.specs.Performing.{SaysUnjudged};
 use hippo_backlog::ReadFault;
 use hippo_engine::Engine;
 use hippo_engine_checks::Unjudged;
-use hippo_engine_rules::{EngineFault, refuse, refuse_for_memory};
+use hippo_engine_rules::{EngineFault, refuse, refuse_out_of_memory};
 use hippo_report::{Refusal, Speaker};
 
 /// Replies with the reason why a command is not carried out. Returns `EngineFault::Keeper` only if
@@ -34,7 +34,7 @@ pub(crate) fn refuse_unjudged(
             Ok(())
         }
         Unjudged::Unread(ReadFault::Memory) => {
-            refuse_for_memory(Speaker::Console, &mut engine.reply);
+            refuse_out_of_memory(Speaker::Console, &mut engine.reply);
             Ok(())
         }
         Unjudged::Unread(ReadFault::Keeper) => Err(EngineFault::Keeper),

@@ -17,7 +17,7 @@ use Rattle.hippo_eval.specs.declared.answers.EvalFault.{EvalFault}
 use Rattle.hippo_eval.specs.Answering.{IsAnswered}
 use Rattle.hippo_eval_answer.specs.Lines.{IsSaid}
 use Rattle.hippo_replay.specs.declared.state.State.{State}
-use Rattle.hippo_replay.specs.Standing.{StandsFor}
+use Rattle.hippo_replay.specs.Standing.{Represents}
 use Rattle.hippo_replay.specs.Recording.{KeepsEntry}
 use Rattle.hippo_engine_sessions.specs.declared.sessions.Session.{Session}
 use Rattle.hippo_engine_sessions.specs.Worlds.{World, session_at, with_session, with_cursor, new_cursor}
@@ -50,10 +50,10 @@ KeptAnswer = Result (Result Answered EvalFault) KeeperFault
 pub record Asks (entry : Entry) (world : World) (question : Question) (delivery : Delivery)
     (result : KeptAnswer) (old new : State) (before after : KeeperState) : Type 0 where
   pub keeps : KeepsEntry entry result old before after
-  pub added : OnOk result ((history : History) → StandsFor old history
-      → StandsFor new (history ++ entry ∷ []))
+  pub added : OnOk result ((history : History) → Represents old history
+      → Represents new (history ++ entry ∷ []))
   pub same : OnErr result (new ≡ old)
-  pub rows : IfOk result (λ answer. (history : History) → StandsFor old history
+  pub rows : IfOk result (λ answer. (history : History) → Represents old history
       → IsAnsweredBy question.session answer delivery (question_rows history world question))
 
 -- the out-of-memory refusal, to a session

@@ -1,6 +1,6 @@
 //! The answer to a question, in the form that its delivery needs.
 ghost use Rattle.hippo_model.specs.Terms.{History};
-ghost use Rattle.hippo_replay.specs.Standing.{StandsFor};
+ghost use Rattle.hippo_replay.specs.Standing.{Represents};
 ghost use Rattle.hippo_engine_world.specs.Holding.{world_of};
 ghost use Rattle.hippo_engine_rules.specs.Effects.{question_rows};
 ghost use Rattle.hippo_engine_checks.specs.Asking.{question_of, IsAnswerable};
@@ -33,7 +33,7 @@ pub(crate) fn answer_of(
     asking: &Asking<'_>,
 ) -> Result<Answered, EvalFault>
     requires { IsAnswerable state.now asking.now.query }
-    ensures { (history : History) → StandsFor state.now history
+    ensures { (history : History) → Represents state.now history
         → IsAnsweredBy session result asking.now.delivery (question_rows history
         (world_of world.now) (question_of session asking.now)) }
 {

@@ -10,7 +10,7 @@ ghost use Rattle.hippo_report.specs.Cells.{answer_line};
 ghost use Rattle.hippo_report.specs.declared.speaker.Speaker.TheVariants as speaker;
 ghost use Rattle.hippo_report.specs.Refusals.{refusal_line};
 ghost use Rattle.hippo_typing.specs.Meanings.{meaning};
-ghost use Rattle.hippo_replay.specs.Standing.{StandsFor, MayFollow, IsNext, takes_no_memory};
+ghost use Rattle.hippo_replay.specs.Standing.{Represents, MayFollow, IsNext, takes_no_memory};
 ghost use Rattle.hippo_replay.specs.Recording.{IsBacked};
 ghost use Rattle.hippo_engine_sessions.specs.declared.sessions.Session.{Session as KeptSession};
 ghost use Rattle.hippo_engine_sessions.specs.Worlds.{session_at};
@@ -26,7 +26,7 @@ ghost use Rattle.hippo_engine_queries.specs.Questions.{IsUnkept, IsHandedOut, Is
 use crate::answered::{Answered, answer_of};
 use hippo_csv::extract_lines;
 use hippo_engine_checks::Asking;
-use hippo_engine_rules::{EngineFault, Reply, refuse_for_memory};
+use hippo_engine_rules::{EngineFault, Reply, refuse_out_of_memory};
 use hippo_engine_sessions::Session;
 use hippo_engine_world::World;
 use hippo_eval::EvalFault;
@@ -77,9 +77,9 @@ fn entry_of(
 fn take_in(alloc: Global, state: &mut State, entry: &Entry)
     requires next { IsNext state.old entry.now }
     requires room { takes_no_memory entry.now.act ≡ true }
-    ensures { (history : History) → StandsFor state.old history
+    ensures { (history : History) → Represents state.old history
         → may_follow meaning history entry.now ≡ true
-        → StandsFor state.new (history ++ entry.now ∷ []) }
+        → Represents state.new (history ++ entry.now ∷ []) }
 {
     state.add(alloc, entry).unwrap();
 }
@@ -243,7 +243,7 @@ fn say_unkept(session: u8, fault: KeeperFault, reply: &mut Reply) -> Result<(), 
     match fault {
         KeeperFault::Failed => Err(EngineFault::Keeper),
         KeeperFault::Memory => {
-            refuse_for_memory(Speaker::Session(session), reply);
+            refuse_out_of_memory(Speaker::Session(session), reply);
             Ok(())
         }
     }
@@ -284,7 +284,7 @@ fn hand_out_rows(
         Ok(()) => keep_answer(session, answer, world),
         Err(Memory) => {
             drop(answer);
-            refuse_for_memory(Speaker::Session(session), reply);
+            refuse_out_of_memory(Speaker::Session(session), reply);
         }
     }
 }
@@ -295,7 +295,7 @@ fn say_too_many(session: u8, alarms: &str, reply: &mut Reply)
         ⊎ (reply.new ≡ short_line session) }
 {
     if print_too_many(session, alarms, reply).is_err() {
-        refuse_for_memory(Speaker::Session(session), reply);
+        refuse_out_of_memory(Speaker::Session(session), reply);
     }
 }
 
@@ -319,7 +319,7 @@ fn hand_out_answer(
     match answer {
         Ok(answer) => hand_out_rows(alloc, session, answer, alarms, world, reply),
         Err(EvalFault::TooManyRows) => say_too_many(session, alarms, reply),
-        Err(EvalFault::Memory) => refuse_for_memory(Speaker::Session(session), reply),
+        Err(EvalFault::Memory) => refuse_out_of_memory(Speaker::Session(session), reply),
     }
 }
 
@@ -345,7 +345,7 @@ fn hand_out(
         }
         Err(Memory) => {
             drop(answer);
-            refuse_for_memory(Speaker::Session(session), reply);
+            refuse_out_of_memory(Speaker::Session(session), reply);
         }
     }
 }

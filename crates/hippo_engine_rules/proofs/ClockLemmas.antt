@@ -19,7 +19,7 @@ use Rattle.hippo_engine_checks.specs.Checks.{Checked, refused_if, by_console}
 use Rattle.hippo_engine_checks.specs.Deeds.{Deed}
 use Rattle.hippo_engine_checks.specs.Deeds as deeds
 use Rattle.hippo_engine_checks.specs.Judging.{judged}
-use Rattle.hippo_engine_rules.specs.Effects.{Effect, row_limit, question_rows, deed_effect, judgement_effect, effect_of, IsShort, IsEffect}
+use Rattle.hippo_engine_rules.specs.Effects.{Effect, row_limit, question_rows, deed_effect, judgement_effect, effect_of, IsOutOfMemory, IsEffect}
 use Rattle.hippo_engine_rules.proofs.ShortLemmas.{IsPlain, plain}
 
 pub int_le-refl : (moment : ℤ) → int_le moment moment ≡ true
@@ -65,7 +65,7 @@ by_rules history world (make_request who (steps number count)) last timely =
 by_rules history world command last timely =
     ap (λ (moment : Moment). int_le last moment) (carried_clock history world (who_commands command) (judged history world command) (plain history world command refl)) ∙ timely
 
-short_clock : (history : History) (world : World) (reply : Txt) (judgement : Checked Deed) (effect : Effect) → IsShort history world reply judgement effect → effect.world.clock ≡ world.clock
+short_clock : (history : History) (world : World) (reply : Txt) (judgement : Checked Deed) (effect : Effect) → IsOutOfMemory history world reply judgement effect → effect.world.clock ≡ world.clock
 short_clock history world reply (Ok (deeds.answer_question question)) effect is = ap (λ (w : World). w.clock) is.same
 short_clock history world reply (Ok (deeds.open_cursor session number question)) effect is = ap (λ (w : World). w.clock) is.same
 short_clock history world reply (Ok (deeds.extract question)) effect is = ap (λ (w : World). w.clock) is.same

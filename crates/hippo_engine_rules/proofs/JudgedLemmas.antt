@@ -22,7 +22,7 @@ use Rattle.hippo_engine_sessions.specs.declared.cursors.Cursor.{Cursor as HeldCu
 use Rattle.hippo_engine_sessions.specs.declared.sessions.Session.{Session}
 use Rattle.hippo_engine_sessions.specs.Worlds.{World, at_number}
 use Rattle.hippo_engine_checks.specs.declared.asking.Delivery.{Delivery}
-use Rattle.hippo_engine_checks.specs.declared.asking.Handing.{Handing}
+use Rattle.hippo_engine_checks.specs.declared.asking.AnswerForm.{AnswerForm}
 use Rattle.hippo_engine_checks.specs.Deeds.{Deed, Question}
 use Rattle.hippo_engine_checks.specs.Deeds as deeds
 use Rattle.hippo_engine_checks.specs.Checks.{Checked, by_console, by_session, open_session, may_log_in, unless_refused, act_made, has_room}
@@ -53,13 +53,13 @@ module _ (Holds : Checked Deed → Type 0) (if_refused : (refusal : Refusal) →
       (λ console. check {A = Stmt} (loaded_insert (known_at history) table text) (λ insert. judged_change history world who insert)
       (λ insert. if_changed history world who insert done))
 
-  delivered : (history : History) (world : World) (handing : Handing) (session : Session) (question : Question) → ((delivery : Delivery) → Holds (Ok (deed_for session question delivery)))
+  delivered : (history : History) (world : World) (handing : AnswerForm) (session : Session) (question : Question) → ((delivery : Delivery) → Holds (Ok (deed_for session question delivery)))
       → Holds (delivery_for handing session >>= λ delivery. has_room history world >>= λ room. Ok (deed_for session question delivery))
   delivered history world handing session question done =
       check {A = Delivery} (delivery_for handing session) (λ delivery. has_room history world >>= λ room. Ok (deed_for session question delivery))
       (λ delivery. check {A = Unit {0}} (has_room history world) (λ room. Ok (deed_for session question delivery)) (λ room. done delivery))
 
-  pub if_asked : (history : History) (world : World) (handing : Handing) (who : Speaker) (written : RawSelect) (text : Txt)
+  pub if_asked : (history : History) (world : World) (handing : AnswerForm) (who : Speaker) (written : RawSelect) (text : Txt)
       → ((session : Session) (question : Question) (delivery : Delivery) → Holds (Ok (deed_for session question delivery)))
       → Holds (judged_question handing history world who written text)
   if_asked history world handing who written text done =

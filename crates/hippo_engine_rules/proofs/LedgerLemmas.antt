@@ -8,7 +8,7 @@ use Rattle.std.proofs.lemmas.List.Sums.{sum_by-cons, sum_by-append, sum_by-le}
 use Rattle.hippo_stmt_lines.specs.Commands.{Command, make_request}
 use Rattle.hippo_values.specs.Texts.{Txt}
 use Rattle.hippo_engine_sessions.specs.Tallies.{JobTally}
-use Rattle.hippo_engine_sessions.specs.Worlds.{with_at, none_held}
+use Rattle.hippo_engine_sessions.specs.Worlds.{with_at, empty_slots}
 use Rattle.hippo_engine_sessions.proofs.HeldLemmas.{StandsAt, held_stands, free_stands}
 use Rattle.hippo_engine_rules.specs.Ledgers.{looks_back, begins_job, stepped_job, dropped_job, audits_of, first_tally, Tallies, none_taken, at_once, job_begun, job_stepped, job_dropped, taken_by_each, RunSum}
 
@@ -45,7 +45,7 @@ module _ (jobs : List (Option JobTally)) (number : ℕ) (held : Option JobTally)
   taken-put jobs' other put = ap taken_by_each (put ∙ there.put other) ∙ filter_map-append taken_by there.front (other ∷ there.remaining)
 
 -- no steps are taken without jobs
-none_taken_by : (count : ℕ) → taken_by_each (none_held count) ≡ []
+none_taken_by : (count : ℕ) → taken_by_each (empty_slots count) ≡ []
 none_taken_by zero = refl
 none_taken_by (suc count) = none_taken_by count
 
@@ -171,7 +171,7 @@ RunSum-line command reply start steps steps' versions versions' audits jobs jobs
     same (taken-put jobs number (Some before) there jobs' None put)
 
 -- loading takes one step for each version
-pub RunSum-start : (start steps versions count : ℕ) → steps ≡ start + versions → RunSum start steps versions 0 (none_held count)
+pub RunSum-start : (start steps versions count : ℕ) → steps ≡ start + versions → RunSum start steps versions 0 (empty_slots count)
 RunSum-start start steps versions count loaded = record {
   over = 0;
   number = ap (λ (taken : List ℕ). 0 + length taken) (sym (none_taken_by count));

@@ -21,12 +21,12 @@ use Rattle.hippo_stmt_lines.specs.Commands.{Command, nothing, wrong, make_reques
 use Rattle.hippo_stmt_lines.specs.Commands as commands
 use Rattle.hippo_engine_checks.specs.declared.asking.Delivery.{Delivery}
 use Rattle.hippo_engine_checks.specs.declared.asking.Delivery.TheVariants as delivered
-use Rattle.hippo_engine_checks.specs.declared.asking.Handing.TheVariants.{Rows, Records, Cursor}
+use Rattle.hippo_engine_checks.specs.declared.asking.AnswerForm.TheVariants.{Rows, Records, Cursor}
 use Rattle.hippo_engine_checks.specs.Deeds.{Deed, Question}
 use Rattle.hippo_engine_checks.specs.Deeds as deeds
 use Rattle.hippo_engine_checks.specs.Checks.{Checked, by_console, question_at}
 use Rattle.hippo_engine_checks.specs.Judging.{judged, judged_fetch, judged_close, text_between, deed_for, audit_in, judged_begin, judged_drop}
-use Rattle.hippo_engine_rules.specs.Effects.{only_reply, judgement_effect, effect_of, IsShort, IsEffect}
+use Rattle.hippo_engine_rules.specs.Effects.{only_reply, judgement_effect, effect_of, IsOutOfMemory, IsEffect}
 use Rattle.hippo_engine_checks.specs.Findings.{may_do_nothing}
 use Rattle.hippo_engine_rules.proofs.JudgedLemmas.{check, if_changed, if_loaded, if_asked, if_logged_in, if_logged_out, if_held}
 
@@ -99,7 +99,7 @@ plain history world (make_statement who (stmt.Watch written) text) other =
     (λ audit. check IsPlain plain_refused {A = ℕ} (ok_or (free_number world.watches) WatchLimit) (λ free. Ok (deeds.watch free audit)) (λ free. tt))
 plain history world (make_statement who statement text) other = if_changed IsPlain plain_refused history world who statement (λ act. tt)
 
-short_of : (history : History) (world : World) (reply : Txt) (judgement : Checked Deed) → IsPlain judgement → IsShort history world reply judgement (only_reply world reply)
+short_of : (history : History) (world : World) (reply : Txt) (judgement : Checked Deed) → IsPlain judgement → IsOutOfMemory history world reply judgement (only_reply world reply)
 short_of history world reply (Ok (deeds.answer_question question)) none = record { said = refl; kept = inl refl; same = refl }
 short_of history world reply (Ok (deeds.open_cursor session number question)) none = record { said = refl; kept = inl refl; same = refl }
 short_of history world reply (Ok (deeds.extract question)) none = record { said = refl; kept = inl refl; same = refl }

@@ -251,22 +251,22 @@ pub record IsShortStep (history : History) (world : World) (reply : Txt) (number
       (Some (job_up_to job upto (step_flags history job upto)))) reply
 
 -- the effects that a line may have instead when memory ran out
-abbrev pub IsShort : History → World → Txt → Checked Deed → Effect → Type 0
-IsShort history world reply (Ok (deeds.answer_question question)) effect =
+abbrev pub IsOutOfMemory : History → World → Txt → Checked Deed → Effect → Type 0
+IsOutOfMemory history world reply (Ok (deeds.answer_question question)) effect =
     IsShortAnswer history world reply question effect
-IsShort history world reply (Ok (deeds.open_cursor session number question)) effect =
+IsOutOfMemory history world reply (Ok (deeds.open_cursor session number question)) effect =
     IsShortAnswer history world reply question effect
-IsShort history world reply (Ok (deeds.extract question)) effect =
+IsOutOfMemory history world reply (Ok (deeds.extract question)) effect =
     IsShortAnswer history world reply question effect
-IsShort history world reply (Ok (deeds.step_job number job count)) effect =
+IsOutOfMemory history world reply (Ok (deeds.step_job number job count)) effect =
     IsShortStep history world reply number job count effect
-IsShort history world reply judgement effect = effect ≡ only_reply world reply
+IsOutOfMemory history world reply judgement effect = effect ≡ only_reply world reply
 
 -- a line may be refused because memory ran out, unless it takes no memory
 abbrev pub IsMemoryEffect : History → World → Command → Effect → Type 0
 IsMemoryEffect history world command effect =
     (takes_memory command ≡ true)
-    × IsShort history world (refusal_line (who_commands command) Memory)
+    × IsOutOfMemory history world (refusal_line (who_commands command) Memory)
     (judged history world command) effect
 
 -- the effect of a command is the one that the rules give, or that of being out of memory

@@ -7,4 +7,4 @@ pub mod laws;
 mod replies;
 
 pub use faults::EngineFault;
-pub use replies::{REPLY_ROOM, Reply, refuse, refuse_for_memory, say_done, say_number};
+pub use replies::{REPLY_ROOM, Reply, refuse, refuse_out_of_memory, say_done, say_number};

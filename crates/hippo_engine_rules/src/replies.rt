@@ -32,7 +32,7 @@ fn speaker_fits(who: Speaker)
 }
 
 /// Replaces the reply by the out-of-memory refusal. Takes no memory.
-pub fn refuse_for_memory(who: Speaker, reply: &mut Reply)
+pub fn refuse_out_of_memory(who: Speaker, reply: &mut Reply)
     ensures { reply.new ≡ refusal_line who NoMemory }
 {
     speaker_fits(who);
@@ -52,7 +52,7 @@ pub fn refuse(who: Speaker, refusal: &Refusal, reply: &mut Reply)
 {
     reply.clear();
     if refusal_line(who, refusal, reply).is_err() {
-        refuse_for_memory(who, reply);
+        refuse_out_of_memory(who, reply);
     }
 }
 

@@ -6,7 +6,7 @@ use Rattle.std.proofs.lemmas.List.{length-map}
 use Rattle.std.proofs.lemmas.List.Quantifiers.{position-Some}
 use Rattle.std.proofs.lemmas.Option.{slice_get-get_or}
 use Rattle.std.specs.Option.{option_flatten}
-use Rattle.hippo_engine_sessions.specs.Worlds.{at_number, with_at, free_number, none_held}
+use Rattle.hippo_engine_sessions.specs.Worlds.{at_number, with_at, free_number, empty_slots}
 
 module _ {A B : Type 0} (f : A → B) where
   seen-get : (places : List (Option A)) (place : ℕ) → option_flatten (slice_get (map (option_map f) places) place) ≡ option_map f (option_flatten (slice_get places place))
@@ -55,7 +55,7 @@ module _ {A B : Type 0} (f : A → B) where
   seen-free places = ap (option_map (λ place. place + 1)) (seen-position places)
 
   -- empty slots are mapped to empty slots
-  pub seen-none : (count : ℕ) → map (option_map f) (none_held count) ≡ none_held count
+  pub seen-none : (count : ℕ) → map (option_map f) (empty_slots count) ≡ empty_slots count
   seen-none zero = refl
   seen-none (suc count) = ap (λ rest. None ∷ rest) (seen-none count)
 

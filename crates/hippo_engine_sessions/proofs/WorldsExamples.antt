@@ -7,7 +7,7 @@ use Rattle.hippo_model.specs.declared.cells.Cell.TheVariants.{Shown, Denied}
 use Rattle.hippo_model.specs.Terms.{ShownRow}
 use Rattle.hippo_report.specs.declared.format.Format.TheVariants as formats
 use Rattle.hippo_engine_sessions.specs.declared.sessions.Session.{Session}
-use Rattle.hippo_engine_sessions.specs.Worlds.{World, at_number, with_at, free_number, none_held, opening, session_at, with_session, new_session, with_cursor, new_cursor, rows_next, moved_on}
+use Rattle.hippo_engine_sessions.specs.Worlds.{World, at_number, with_at, free_number, empty_slots, opening, session_at, with_session, new_session, with_cursor, new_cursor, rows_next, moved_on}
 
 -- two of three numbers have a value
 abbrev some_held : List (Option ℕ)
@@ -21,7 +21,7 @@ nothing_stands_past_the_last_number : (at_number some_held 4 ≡ None) × (with_
 nothing_stands_past_the_last_number = (refl, refl)
 
 the_lowest_number_is_taken_first :
-    (free_number {A = ℕ} (none_held 3) ≡ Some 1) × (free_number some_held ≡ Some 2)
+    (free_number {A = ℕ} (empty_slots 3) ≡ Some 1) × (free_number some_held ≡ Some 2)
 the_lowest_number_is_taken_first = (refl, refl)
 
 a_number_that_is_given_up_is_taken_again : free_number (with_at some_held 1 None) ≡ Some 1

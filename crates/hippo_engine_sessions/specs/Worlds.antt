@@ -38,8 +38,8 @@ abbrev pub free_number : {A : Type 0} → List (Option A) → Option ℕ
 free_number places = option_map (λ place. place + 1) (position is_none places)
 
 -- this many empty slots
-abbrev pub none_held : {A : Type 0} → ℕ → List (Option A)
-none_held count = replicate count None
+abbrev pub empty_slots : {A : Type 0} → ℕ → List (Option A)
+empty_slots count = replicate count None
 
 -- the world in which a run begins
 abbrev pub opening : Moment → ℕ → Format → World
@@ -47,9 +47,9 @@ opening clock limit format = record {
   clock = clock;
   limit = limit;
   format = format;
-  sessions = none_held session_limit;
-  jobs = none_held job_limit;
-  watches = none_held watch_limit;
+  sessions = empty_slots session_limit;
+  jobs = empty_slots job_limit;
+  watches = empty_slots watch_limit;
 }
 
 abbrev pub session_at : World → ℕ → Option Session
@@ -61,7 +61,7 @@ with_session world number session =
 
 -- a session without cursors
 abbrev pub new_session : Name → Pair → Session
-new_session user pair = record { user = user; pair = pair; cursors = none_held cursor_limit }
+new_session user pair = record { user = user; pair = pair; cursors = empty_slots cursor_limit }
 
 -- a cursor before its first row
 abbrev pub new_cursor : List ShownRow → Cursor

@@ -1,7 +1,7 @@
 //! Slots with numbers from 1 on.
 ghost use Rattle.std.specs.Prelude.{◌≡◌, ◌<◌, None, length, slice_get, slice_set, position, is_none, option_copied, IfOk, IfSome};
 ghost use Rattle.std.specs.Option.{option_flatten};
-ghost use Rattle.hippo_engine_sessions.specs.Worlds.{at_number, with_at, free_number, none_held};
+ghost use Rattle.hippo_engine_sessions.specs.Worlds.{at_number, with_at, free_number, empty_slots};
 
 use hippo_values::Memory;
 use std::alloc::Global;
@@ -61,7 +61,7 @@ fn first_free<T>(places: &[Option<T>]) -> Option<usize>
 impl<T: Drop> Numbered<T> {
     /// `count` empty slots. Fails when out of memory.
     pub fn none(alloc: Global, count: usize) -> Result<Numbered<T>, Memory>
-        ensures { IfOk result (λ made. made ≡ none_held count) }
+        ensures { IfOk result (λ made. made ≡ empty_slots count) }
     {
         let mut places = Vec::with_capacity(alloc, count)?;
         for _ in 0..count {

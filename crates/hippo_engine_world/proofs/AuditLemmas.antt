@@ -25,7 +25,7 @@ use Rattle.hippo_engine_world.specs.declared.worlds.World.{World as HeldWorld}
 use Rattle.hippo_engine_world.specs.Auditing.{HeldJob, taken_by_job, HasBegun, IsLooking, AreLooking, watched, AreWatching, AreAudits, job_tally, job_tallies, EachChanges}
 use Rattle.hippo_engine_world.specs.declared.watches.Way.TheVariants.{In, Back}
 use Rattle.hippo_engine_world.specs.Holding.{world_of, KeepsAudits, JobsFit, WatchesFit, WatchesFollow, WatchesGoBack, tallies_of}
-use Rattle.hippo_engine_sessions.specs.Worlds.{World, with_at, none_held, opening}
+use Rattle.hippo_engine_sessions.specs.Worlds.{World, with_at, empty_slots, opening}
 use Rattle.hippo_engine_sessions.proofs.HeldLemmas.{StandsAt, seen-none}
 
 module _ {A : Type 0} (P Q : A → Type 0) where
@@ -83,39 +83,39 @@ tallies_of-same old new keeps = ap job_tallies keeps.jobs
 
 -- nothing is held if the mapped slots are empty
 module _ {A B : Type 0} (f : A → B) where
-  none_there : (places : List (Option A)) (count : ℕ) → map (option_map f) places ≡ none_held count → places ≡ none_held count
+  none_there : (places : List (Option A)) (count : ℕ) → map (option_map f) places ≡ empty_slots count → places ≡ empty_slots count
   none_there [] zero is = refl
   none_there [] (suc count) is = absurd cc
   none_there (first ∷ rest) zero is = absurd cc
   none_there (None ∷ rest) (suc count) is =
-      let later : map (option_map f) rest ≡ none_held count = cc in
+      let later : map (option_map f) rest ≡ empty_slots count = cc in
       ap (λ (places : List (Option A)). None ∷ places) (none_there rest count later)
   none_there (Some one ∷ rest) (suc count) is = absurd cc
 
-none_look : (history : History) (count : ℕ) → AreLooking history (none_held count)
+none_look : (history : History) (count : ℕ) → AreLooking history (empty_slots count)
 none_look history zero = tt
 none_look history (suc count) = (tt, none_look history count)
 
-none_watch : (history : History) (count : ℕ) → AreWatching history (none_held count)
+none_watch : (history : History) (count : ℕ) → AreWatching history (empty_slots count)
 none_watch history zero = tt
 none_watch history (suc count) = (tt, none_watch history count)
 
 module _ (held : HeldWorld) (clock : Moment) (limit : ℕ) (format : Format) (opens : world_of held ≡ opening clock limit format) where
-  no_jobs : (count : ℕ) → (opening clock limit format).jobs ≡ none_held count → held.jobs ≡ none_held count
+  no_jobs : (count : ℕ) → (opening clock limit format).jobs ≡ empty_slots count → held.jobs ≡ empty_slots count
   no_jobs count is = none_there open_audit held.jobs count (ap (λ (world : World). world.jobs) opens ∙ is)
 
   -- no job is held when a run begins
   pub JobsFit-opening : (history : History) → JobsFit history held
   JobsFit-opening history = subst (AreLooking history) (sym (no_jobs job_limit refl)) (none_look history job_limit)
 
-  pub tallies_of-opening : tallies_of held ≡ none_held job_limit
+  pub tallies_of-opening : tallies_of held ≡ empty_slots job_limit
   tallies_of-opening = ap job_tallies (no_jobs job_limit refl) ∙ seen-none job_tally job_limit
 
-  no_watches : (count : ℕ) → (opening clock limit format).watches ≡ none_held count → held.watches ≡ none_held count
+  no_watches : (count : ℕ) → (opening clock limit format).watches ≡ empty_slots count → held.watches ≡ empty_slots count
   no_watches count is = none_there watched held.watches count (ap (λ (world : World). world.watches) opens ∙ is)
 
   -- nor any watch
-  pub none_watched : held.watches ≡ none_held watch_limit
+  pub none_watched : held.watches ≡ empty_slots watch_limit
   none_watched = no_watches watch_limit refl
 
   pub WatchesFit-opening : (history : History) → WatchesFit history held

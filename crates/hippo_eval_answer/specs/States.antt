@@ -18,7 +18,7 @@ use Rattle.hippo_eval_answer.specs.declared.standpoint.Standpoint.{Standpoint}
 pub record AreStateOf (meaning : Meaning) (standpoint : Standpoint) (history : History)
     : Type 0 where
   pub valid : is_valid meaning history ≡ true
-  pub book : books.BookStandsFor standpoint.book.now history
+  pub book : books.BookRepresents standpoint.book.now history
   pub tables : standing.TablesStandFor standpoint.tables.now history
   pub entries : standpoint.count ≡ length history
 
@@ -32,7 +32,7 @@ rules_from standpoint history names =
 pub record IsMasked (standpoint : Standpoint) (query : Query) (masked : Masked) : Type 0 where
   pub kept : standing.AreKeptTables standpoint.tables.now query.tables
   pub tables : masked.tables ≡ query.tables
-  pub rules : (history : History) → books.BookStandsFor standpoint.book.now history
+  pub rules : (history : History) → books.BookRepresents standpoint.book.now history
       → standing.TablesStandFor standpoint.tables.now history
       → masked ≡ rewritten_query (rules_from standpoint history query.tables) query
 

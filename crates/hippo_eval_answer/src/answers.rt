@@ -3,7 +3,7 @@ ghost use Rattle.std.specs.Prelude.{◌≡◌, List, length, IfOk};
 ghost use Rattle.hippo_model.specs.Terms.{History, Meaning, ShownRow};
 ghost use Rattle.hippo_model.specs.Forms.{rows_by_form};
 ghost use Rattle.hippo_model.specs.Masking.{masked_answer};
-ghost use Rattle.hippo_policy.specs.Books.{BookStandsFor};
+ghost use Rattle.hippo_policy.specs.Books.{BookRepresents};
 ghost use Rattle.hippo_tables.specs.Standing.{TablesStandFor, AreKeptTables};
 ghost use Rattle.hippo_eval.specs.Walks.{rows_of};
 ghost use Rattle.hippo_eval.specs.Answering.{IsAnswered};
@@ -33,7 +33,7 @@ fn rules_of(
 ) -> Result<RulesInForce, Memory>
     requires { AreKeptTables standpoint.now.tables.now names.now }
     ensures { IfOk result (λ rules. (history : History)
-        → BookStandsFor standpoint.now.book.now history
+        → BookRepresents standpoint.now.book.now history
         → TablesStandFor standpoint.now.tables.now history
         → rules ≡ rules_from standpoint.now history names.now) }
 {

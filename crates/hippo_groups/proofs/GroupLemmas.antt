@@ -7,11 +7,11 @@ use Rattle.std.proofs.lemmas.List.{append-nil, map-append}
 use Rattle.std.proofs.lemmas.List.Elements.{filter-append}
 use Rattle.hippo_model.specs.Terms.{ShownRow, Place}
 use Rattle.hippo_model.specs.Bags.{same_row}
-use Rattle.hippo_model.specs.Forms.{different_rows}
+use Rattle.hippo_model.specs.Forms.{distinct_rows}
 use Rattle.hippo_model.proofs.SameRows.{same_row-refl}
 use Rattle.hippo_distinct.specs.DistinctRows.{stands_in}
-use Rattle.hippo_distinct.proofs.DifferentLemmas.{if_new, different_rows-push}
-use Rattle.hippo_distinct.proofs.KeptLemmas.{same_row-sym, stands-different_rows}
+use Rattle.hippo_distinct.proofs.DifferentLemmas.{if_new, distinct_rows-push}
+use Rattle.hippo_distinct.proofs.KeptLemmas.{same_row-sym, stands-distinct_rows}
 use Rattle.hippo_groups.specs.KeptGroups.{members_of, keys_of}
 
 pub stands-there : (row : ShownRow) (front back : List ShownRow) → stands_in row (front ++ row ∷ back) ≡ true
@@ -51,12 +51,12 @@ apart-filter p (row ∷ rows) apart =
     by true here later = and_from (list_all (λ other. not (same_row row other)) (filter p rows)) (are_apart (filter p rows)) here later
     by false here later = later
 
-different_rows-apart : (rows : List ShownRow) → are_apart (different_rows rows) ≡ true
-different_rows-apart [] = refl
-different_rows-apart (first ∷ rows) =
+distinct_rows-apart : (rows : List ShownRow) → are_apart (distinct_rows rows) ≡ true
+distinct_rows-apart [] = refl
+distinct_rows-apart (first ∷ rows) =
     let passes : ShownRow → Bool = λ row. not (same_row first row) in
-    and_from (list_all passes (filter passes (different_rows rows))) (are_apart (filter passes (different_rows rows)))
-    (filter-passes passes (different_rows rows)) (apart-filter passes (different_rows rows) (different_rows-apart rows))
+    and_from (list_all passes (filter passes (distinct_rows rows))) (are_apart (filter passes (distinct_rows rows)))
+    (filter-passes passes (distinct_rows rows)) (apart-filter passes (distinct_rows rows) (distinct_rows-apart rows))
 
 false-from_not : (test : Bool) → not test ≡ true → test ≡ false
 false-from_not true e = absurd cc
@@ -125,9 +125,9 @@ module _ {M K : Type 0} (row_of : M → ShownRow) (keys : Place) (kept_of : Show
 
     keys-push : keys_of row_of keys more ≡ keys_found ++ if_new (stands_in its_key keys_found) its_key
     keys-push =
-        ap different_rows (map-append key_of found (member ∷ []))
-        ∙ different_rows-push (map key_of found) its_key
-        ∙ ap (λ (stands : Bool). keys_found ++ if_new stands its_key) (sym (stands-different_rows its_key (map key_of found)))
+        ap distinct_rows (map-append key_of found (member ∷ []))
+        ∙ distinct_rows-push (map key_of found) its_key
+        ∙ ap (λ (stands : Bool). keys_found ++ if_new stands its_key) (sym (stands-distinct_rows its_key (map key_of found)))
 
     -- a member with a new key is a group of its own, after the others
     pub keys-new : stands_in its_key keys_found ≡ false → keys_of row_of keys more ≡ keys_found ++ its_key ∷ []
@@ -136,7 +136,7 @@ module _ {M K : Type 0} (row_of : M → ShownRow) (keys : Place) (kept_of : Show
     pub kept-new : stands_in its_key keys_found ≡ false → map (kept_at more) (keys_of row_of keys more) ≡ map (kept_at found) keys_found ++ kept_of its_key (member ∷ []) ∷ []
     kept-new none =
         let alone : members_of row_of keys more its_key ≡ member ∷ [] =
-        its_members ∙ ap (λ (before : List M). before ++ member ∷ []) (none_yet found (sym (stands-different_rows its_key (map key_of found)) ∙ none)) in
+        its_members ∙ ap (λ (before : List M). before ++ member ∷ []) (none_yet found (sym (stands-distinct_rows its_key (map key_of found)) ∙ none)) in
         ap (map (kept_at more)) (keys-new none)
         ∙ map-append (kept_at more) keys_found (its_key ∷ [])
         ∙ λ i. others_stay keys_found none i ++ kept_of its_key (alone i) ∷ []
@@ -154,7 +154,7 @@ module _ {M K : Type 0} (row_of : M → ShownRow) (keys : Place) (kept_of : Show
 
       pub kept-joined : map (kept_at found) front ++ kept_of its_key (members_of row_of keys found its_key ++ member ∷ []) ∷ map (kept_at found) back ≡ map (kept_at more) (keys_of row_of keys more)
       kept-joined =
-          let apart = apart-at its_key front back (ap are_apart (sym split) ∙ different_rows-apart (map key_of found)) in
+          let apart = apart-at its_key front back (ap are_apart (sym split) ∙ distinct_rows-apart (map key_of found)) in
           sym (
           ap (map (kept_at more)) (keys-same ∙ split)
           ∙ map-append (kept_at more) front (its_key ∷ back)

@@ -10,9 +10,9 @@ use Rattle.indexmap.specs.IndexSet.{insert_key}
 use Rattle.hippo_model.specs.declared.cells.Cell.{Cell}
 use Rattle.hippo_model.specs.declared.query.Shape.{Shape}
 use Rattle.hippo_model.specs.Terms.{ShownRow, Place}
-use Rattle.hippo_model.specs.Forms.{different_rows, group_cell, grouped_rows}
+use Rattle.hippo_model.specs.Forms.{distinct_rows, group_cell, grouped_rows}
 use Rattle.hippo_distinct.specs.DistinctRows.{stands_in}
-use Rattle.hippo_distinct.proofs.DifferentLemmas.{same_row-exact, different_rows-append}
+use Rattle.hippo_distinct.proofs.DifferentLemmas.{same_row-exact, distinct_rows-append}
 use Rattle.hippo_distinct.proofs.KeptLemmas.{row_eq, row_eq-same, asks-stands_in}
 use Rattle.hippo_groups.specs.KeptGroups.{members_of, keys_of, GroupKeys, AreKept}
 use Rattle.hippo_groups.proofs.GroupLemmas.{kept_at, keys-new, kept-new, keys-same, kept-before, kept-joined}
@@ -104,10 +104,10 @@ pub not_fewer : (shape : Shape) (found rows : List ShownRow) → rows ≡ groupe
 not_fewer shape found rows are later =
     let keys : List ShownRow = map (take shape.keys) found in
     let row : List ShownRow → ShownRow → ShownRow = kept_at (λ row. row) shape.keys (λ key members. map (group_cell key members) shape.outs) in
-    let whole = different_rows-append (map (take shape.keys) later) keys in
-    let before : length rows ≡ length (different_rows keys) = ap length are ∙ length-map (different_rows keys) (row found) in
-    let after : length (grouped_rows shape (found ++ later)) ≡ length (different_rows keys ++ whole.0) =
-    length-map (different_rows (map (take shape.keys) (found ++ later))) (row (found ++ later))
-    ∙ ap (λ (all : List ShownRow). length (different_rows all)) (map-append (take shape.keys) found later)
+    let whole = distinct_rows-append (map (take shape.keys) later) keys in
+    let before : length rows ≡ length (distinct_rows keys) = ap length are ∙ length-map (distinct_rows keys) (row found) in
+    let after : length (grouped_rows shape (found ++ later)) ≡ length (distinct_rows keys ++ whole.0) =
+    length-map (distinct_rows (map (take shape.keys) (found ++ later))) (row (found ++ later))
+    ∙ ap (λ (all : List ShownRow). length (distinct_rows all)) (map-append (take shape.keys) found later)
     ∙ ap length whole.1 in
-    omega (arith, before, after, length-append (different_rows keys) whole.0)
+    omega (arith, before, after, length-append (distinct_rows keys) whole.0)

@@ -6,7 +6,7 @@ use Rattle.hippo_model.specs.declared.cells.Cell.{Cell}
 use Rattle.hippo_model.specs.declared.query.Shape.{Shape}
 use Rattle.hippo_model.specs.Terms.{ShownRow, Place}
 use Rattle.hippo_model.specs.Bags.{same_row}
-use Rattle.hippo_model.specs.Forms.{different_rows, group_cell}
+use Rattle.hippo_model.specs.Forms.{distinct_rows, group_cell}
 use Rattle.hippo_groups.specs.declared.grouping.Groups.{Groups}
 
 -- the members whose rows begin with a key
@@ -15,7 +15,7 @@ members_of row_of keys found key = filter (λ member. same_row key (take keys (r
 
 -- the keys of the groups, each at the place of its first member
 abbrev pub keys_of : {M : Type 0} → (M → ShownRow) → Place → List M → List ShownRow
-keys_of row_of keys found = different_rows (map (λ member. take keys (row_of member)) found)
+keys_of row_of keys found = distinct_rows (map (λ member. take keys (row_of member)) found)
 
 -- the cells of the keys
 abbrev pub GroupKeys : Type 0

@@ -4,7 +4,7 @@
 
 ghost use Rattle.hippo_history_top.specs.CommandLine.{asked_of};
 ghost use Rattle.hippo_history_top.specs.Endings.{showing_statuses};
-ghost use Rattle.hippo_program_start.specs.Statuses.{AnswersAmong, TellsFault};
+ghost use Rattle.hippo_program_start.specs.Statuses.{AnswersAmong, ReportsFault};
 
 use hippo_history_top::history_top;
 use hippo_io::{Sink, Source};
@@ -13,14 +13,15 @@ use hippo_sqlite_files::FileKeeper;
 use hippo_values::Txt;
 use std::sync::ledger::Ledger;
 
-// The program over stores in files. Its exit status is that of `history_top`: 2 for words that ask
-// for nothing, and for no others; 3 or 5 exactly when the keeper or the sink failed.
+// The program over stores in files. Its exit status is that of `history_top`: 2 only for words that
+// ask for nothing; 3 or 5 exactly when the keeper or the sink failed. `Answers` does not speak of
+// 3.
 struct History;
 
 impl Program for History {
     ghost Answers = { λ words status before after.
         AnswersAmong showing_statuses (asked_of words) status
-        × TellsFault 5 status before.writes after.writes };
+        × ReportsFault 5 status before.writes after.writes };
 
     fn call<S: Source, K: Sink, L: Ledger>(words: &[Txt], host: &mut Host<S, K, L>) -> u8 {
         let alloc = host.runtime.alloc();

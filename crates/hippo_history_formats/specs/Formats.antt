@@ -16,7 +16,7 @@ use Rattle.hippo_model.specs.Rules.{Rule, allowed, revoked}
 use Rattle.hippo_model.specs.Terms.{Place}
 use Rattle.hippo_report.specs.declared.format.Format.{Format}
 use Rattle.hippo_report.specs.declared.format.Format.TheVariants as formats
-use Rattle.hippo_history_statements.specs.Telling.{told_act, entry_line, allow_text, rule_text, name_at}
+use Rattle.hippo_history_statements.specs.Telling.{act_statement, entry_line, allow_text, rule_text, name_at}
 
 -- an object without spaces as a line, and then a record as a line
 abbrev pub json_line : Data → Txt
@@ -45,14 +45,14 @@ question_data entry moment user purpose recipient text =
 abbrev pub entry_data : Option Schema → ℕ → Txt → Act → Data
 entry_data schema entry moment (Asked user purpose recipient text) =
     question_data entry moment user purpose recipient text
-entry_data schema entry moment act = statement_data entry moment (told_act schema act)
+entry_data schema entry moment act = statement_data entry moment (act_statement schema act)
 
 -- six fields; the third to the fifth are empty if nobody asks
 abbrev pub entry_fields : Option Schema → ℕ → Txt → Act → List Txt
 entry_fields schema entry moment (Asked user purpose recipient text) =
     decimal entry ∷ moment ∷ user ∷ purpose ∷ recipient ∷ text ∷ []
 entry_fields schema entry moment act =
-    decimal entry ∷ moment ∷ [] ∷ [] ∷ [] ∷ told_act schema act ∷ []
+    decimal entry ∷ moment ∷ [] ∷ [] ∷ [] ∷ act_statement schema act ∷ []
 
 abbrev pub entry_by : Format → Option Schema → Entry → Txt
 entry_by formats.Text schema entry = entry_line schema entry

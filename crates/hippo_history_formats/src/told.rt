@@ -1,14 +1,14 @@
 //! An entry as a line in each format.
 ghost use Rattle.std.specs.Prelude.{◌≡◌, ◌++◌, option_copied, IfOk, OnOk, codes};
 ghost use Rattle.hippo_values_text.specs.Dates.{moment_text};
-ghost use Rattle.hippo_history_statements.specs.Telling.{told_act};
+ghost use Rattle.hippo_history_statements.specs.Telling.{act_statement};
 ghost use Rattle.hippo_history_formats.specs.Formats.{json_line, csv_line, entry_by};
 ghost use Rattle.hippo_history_formats.specs.Shown.{shown_data, shown_fields, Shows};
 
 use crate::objects::entry_json;
 use crate::questions::{Question, question_of};
 use crate::records::{append_record, entry_record};
-use hippo_history_statements::{entry_line, tell_act};
+use hippo_history_statements::{append_act_statement, entry_line};
 use hippo_model::{Act, Entry, Schema};
 use hippo_report::Format;
 use hippo_values::{Memory, Moment, Txt};
@@ -51,10 +51,10 @@ fn moment_of(alloc: Global, moment: &Moment) -> Result<Txt, Memory>
 
 // The statement that made an act.
 fn told_text(alloc: Global, schema: Option<&Schema>, act: &Act) -> Result<Txt, Memory>
-    ensures { IfOk result (λ text. text ≡ told_act (option_copied schema.entry) act.now) }
+    ensures { IfOk result (λ text. text ≡ act_statement (option_copied schema.entry) act.now) }
 {
     let mut text = Txt::new(alloc);
-    tell_act(alloc, schema, act, &mut text)?;
+    append_act_statement(alloc, schema, act, &mut text)?;
     Ok(text)
 }
 

@@ -30,7 +30,7 @@ use Rattle.hippo_report.specs.declared.speaker.Speaker.TheVariants as speaker
 use Rattle.hippo_report.specs.Notices.{done_line}
 use Rattle.hippo_engine_sessions.specs.Worlds.{World, with_session}
 use Rattle.hippo_stmt_lines.specs.Commands.{command_of}
-use Rattle.hippo_engine_checks.specs.declared.asking.Handing.TheVariants.{Rows}
+use Rattle.hippo_engine_checks.specs.declared.asking.AnswerForm.TheVariants.{Rows}
 use Rattle.hippo_engine_checks.specs.Deeds.{next_entry}
 use Rattle.hippo_engine_checks.specs.Judging.{judged_question, text_between}
 use Rattle.hippo_engine_rules.specs.Effects.{Effect, judgement_effect, effect_of, only_reply}

@@ -30,7 +30,7 @@ use Rattle.hippo_model.specs.Validity.{is_acceptable, is_valid}
 use Rattle.hippo_model_laws.proofs.ValidFronts.{entries_before, front_is_valid}
 use Rattle.hippo_typing.specs.Meanings.{meaning}
 use Rattle.hippo_typing_laws.proofs.HistoryLemmas.{acceptable, keepable}
-use Rattle.hippo_history_statements.specs.Telling.{schema_before, table_named, told_act}
+use Rattle.hippo_history_statements.specs.Telling.{schema_before, table_named, act_statement}
 use Rattle.hippo_history_laws.specs.TellingLaws.{is_stated}
 use Rattle.hippo_history_laws.proofs.ReadingTheorem.{three-names}
 use Rattle.hippo_history_top.specs.declared.asking.View.TheVariants.{Entries}
@@ -225,11 +225,11 @@ script-are : (before : History) → is_valid meaning before ≡ true → (act : 
 script-are before valid (Asked user purpose recipient text) kept fit schema same bare =
     question-are user purpose recipient text kept bare
 script-are before valid act kept fit schema same stated =
-    let told : AreInner (told_act schema act) =
-    subst (λ (s : Option Schema). is_stated s act ≡ true → AreInner (told_act s act)) (sym same)
+    let told : AreInner (act_statement schema act) =
+    subst (λ (s : Option Schema). is_stated s act ≡ true → AreInner (act_statement s act)) (sym same)
     (told-inner meaning before valid act kept fit) stated in
-    let line : AreInner (codes "0 " ++ told_act schema act) =
-    both (codes "0 ") (told_act schema act) (said refl) told in
+    let line : AreInner (codes "0 " ++ act_statement schema act) =
+    both (codes "0 ") (act_statement schema act) (said refl) told in
     ap (list_all is_line) (stated-lines schema act stated) ∙ and_from _ _ (inner-line _ line) refl
 
 both-are : (first second : List Txt) → list_all is_line first ≡ true → list_all is_line second ≡ true

@@ -29,7 +29,7 @@ use Rattle.hippo_tables.specs.Finished.{finished_act}
 use Rattle.hippo_report.specs.declared.refusal.Refusal.TheVariants.{BadSyntax, HistoryFull, MomentBack, NoSession, SessionOpen}
 use Rattle.hippo_engine_sessions.specs.declared.sessions.Session.{Session}
 use Rattle.hippo_engine_sessions.specs.Worlds.{World, new_session, with_session}
-use Rattle.hippo_engine_checks.specs.declared.asking.Handing.TheVariants.{Rows}
+use Rattle.hippo_engine_checks.specs.declared.asking.AnswerForm.TheVariants.{Rows}
 use Rattle.hippo_report.specs.declared.speaker.Speaker.TheVariants.{Console}
 use Rattle.hippo_report.specs.declared.speaker.Speaker.TheVariants as speaker
 use Rattle.hippo_engine_checks.specs.Checks.{Checked, act_made, allowed_by, by_authorized_user, has_room, unless_refused, open_session, refused_if}
@@ -70,24 +70,24 @@ change-judged history world statement text wanted act unrefused wants comes room
     ∙ ap (λ (test : Bool). refused_if test HistoryFull >>= λ free. Ok (deeds.change act)) full
 
 not_back : (clock moment : ℤ) → int_le clock moment ≡ true → int_lt moment clock ≡ false
-not_back clock moment no_earlier = grind (arith, ints)
+not_back clock moment clamped_number = grind (arith, ints)
 
 -- the clock may be set to a moment that is not earlier
 pub clock-judged : (world : World) (moment : Moment) → int_le world.clock moment ≡ true
     → judged_clock world moment ≡ Ok (deeds.set_clock moment)
-clock-judged world moment no_earlier =
+clock-judged world moment clamped_number =
     ap (λ (test : Bool). refused_if test (MomentBack world.clock) >>= λ set. Ok
-    (deeds.set_clock moment)) (not_back world.clock moment no_earlier)
+    (deeds.set_clock moment)) (not_back world.clock moment clamped_number)
 
 -- session 1 may be opened if it is free
 abbrev pub logged : World → Name → Pair → World
 logged world user pair = with_session world 1 (Some (new_session user pair))
 
-none_held : (held : Option (Option Session)) → option_map_or is_none held false ≡ true
+empty_slots : (held : Option (Option Session)) → option_map_or is_none held false ≡ true
     → option_flatten held ≡ None
-none_held None free = absurd cc
-none_held (Some None) free = refl
-none_held (Some (Some session)) free = absurd cc
+empty_slots None free = absurd cc
+empty_slots (Some None) free = refl
+empty_slots (Some (Some session)) free = absurd cc
 
 opened_at : (sessions : List (Option Session)) (session : Session)
     → option_map_or is_none (slice_get sessions 0) false ≡ true
@@ -117,7 +117,7 @@ module _ (history : History) (world : World) (user : Name) (pair : Pair)
   login-judged =
       ap (λ (held : Option Session). (refused_if (is_some held) SessionOpen >>= λ closed.
       by_authorized_user history user pair) >>= λ allowed. Ok (deeds.log_in 1 user pair))
-      (none_held (slice_get world.sessions 0) free)
+      (empty_slots (slice_get world.sessions 0) free)
       ∙ ap (λ (said : Authorization). allowed_by said >>= λ allowed. Ok (deeds.log_in 1 user pair))
       may
 

@@ -11,7 +11,7 @@ use Rattle.hippo_model.specs.declared.entry.Act.TheVariants.{Asked}
 use Rattle.hippo_model.specs.declared.entry.Entry.{Entry}
 use Rattle.hippo_model.specs.declared.schema.Schema.{Schema}
 use Rattle.hippo_model.specs.Terms.{History}
-use Rattle.hippo_history_statements.specs.Telling.{schema_before, told_act}
+use Rattle.hippo_history_statements.specs.Telling.{schema_before, act_statement}
 use Rattle.hippo_history_top.specs.declared.asking.Excerpt.{Excerpt}
 use Rattle.hippo_history_top.specs.declared.asking.Form.{Form}
 use Rattle.hippo_history_top.specs.declared.asking.Form.TheVariants.{Script}
@@ -41,7 +41,7 @@ session-lines user purpose recipient text =
 act-lines : (schema : Option Schema) (act : Act) → act_lines schema act
     ≡ flat_map fed (act_script schema act)
 act-lines schema (Asked user purpose recipient text) = session-lines user purpose recipient text
-act-lines schema act = sym (append-nil (codes "0 " ++ (told_act schema act ++ codes "\n")))
+act-lines schema act = sym (append-nil (codes "0 " ++ (act_statement schema act ++ codes "\n")))
 
 clock-line : (clock : Option Moment) (moment : Moment) → clock_line clock moment
     ≡ flat_map fed (clock_lines clock moment)

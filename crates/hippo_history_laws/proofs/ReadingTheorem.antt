@@ -27,7 +27,7 @@ use Rattle.hippo_typing_catalog.specs.Catalogs.{known_at}
 use Rattle.hippo_typing_catalog.specs.ChangesWanted.{wanted_by}
 use Rattle.hippo_typing_laws.proofs.FitWords.{AreFit, words-fit}
 use Rattle.hippo_history_laws.proofs.FitLemmas.{flat-fit}
-use Rattle.hippo_history_statements.specs.Telling.{grant_text, told_act}
+use Rattle.hippo_history_statements.specs.Telling.{grant_text, act_statement}
 use Rattle.hippo_history_laws.specs.TellingLaws.{ReadsAs, ReadsBack, NamesReadBack}
 use Rattle.hippo_history_laws.proofs.SayingLemmas.{Says, Spells, says-blank, says-word, says-last_word, says-name, says-name_first, says-last_name}
 use Rattle.hippo_history_laws.proofs.SpellingLemmas.{says-number_first, says-comma, authorize-word, choice-word, create-word, deauthorize-word, for-word, in-word, is-word, item-word, no-word, on-word, opt-word, out-word, purpose-word, recipient-word, yes-word}
@@ -143,7 +143,7 @@ choice-reads subject item word answer s spells fits is fit grammatical =
 
 -- a statement that asks for an act as it stands
 abbrev pub ready : (history : History) (schema : Option Schema) (act : Act) (s : Stmt)
-    → ReadsAs (told_act schema act) s
+    → ReadsAs (act_statement schema act) s
     → wanted_by (known_at history) s ≡ Some (Ready act) → ReadsBack history schema act
 ready history schema act s reads wants = record {
   statement = s;

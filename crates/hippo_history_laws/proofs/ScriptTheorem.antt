@@ -34,7 +34,7 @@ use Rattle.hippo_model.specs.HandedOver.{is_question}
 use Rattle.hippo_engine_checks.specs.Deeds.{next_entry}
 use Rattle.hippo_engine_rules.specs.Effects.{Effect, judgement_effect, effect_of, only_reply}
 use Rattle.hippo_typing_laws.proofs.HistoryLemmas.{acceptable, followed, keepable}
-use Rattle.hippo_history_statements.specs.Telling.{schema_before, told_act}
+use Rattle.hippo_history_statements.specs.Telling.{schema_before, act_statement}
 use Rattle.hippo_history_laws.specs.TellingLaws.{MakesAgain, is_stated}
 use Rattle.hippo_history_laws.proofs.EntryTheorem.{entries_are_made_again}
 use Rattle.hippo_history_top.specs.Showing.{stands_at}
@@ -55,7 +55,7 @@ begins word rest filled one plain = record {
 }
 
 told-begins : (schema : Option Schema) (act : Act) → is_stated schema act ≡ true
-    → Begins (told_act schema act)
+    → Begins (act_statement schema act)
 told-begins schema (Create made) stated = begins (codes "CREATE") _ refl refl refl
 told-begins schema (Insert table row) stated = begins (codes "INSERT") _ refl refl refl
 told-begins schema (Update table row) stated = begins (codes "UPDATE") _ refl refl refl
@@ -77,7 +77,7 @@ told-begins schema (Asked user purpose recipient text) stated = absurd cc
 
 -- a statement has one line
 pub stated-lines : (schema : Option Schema) (act : Act) → is_stated schema act ≡ true
-    → act_script schema act ≡ (codes "0 " ++ told_act schema act) ∷ []
+    → act_script schema act ≡ (codes "0 " ++ act_statement schema act) ∷ []
 stated-lines schema (Asked user purpose recipient text) stated = absurd cc
 stated-lines schema act stated = refl
 
@@ -131,13 +131,13 @@ module _ (before later : History) (entry : Entry)
   line-makes : (world : World) → world.clock ≡ entry.moment → length before < world.limit
       → is_stated (schema_before whole entry) entry.act ≡ true
       → effect_of before world
-      (command_of (text_line (codes "0 " ++ told_act (schema_before whole entry) entry.act)))
+      (command_of (text_line (codes "0 " ++ act_statement (schema_before whole entry) entry.act)))
       ≡ made_effect world entry
   line-makes world clock room stated =
       let schema : Option Schema = schema_before whole entry in
       let again : MakesAgain before schema entry.act =
       entries_are_made_again meaning before later entry valid stated in
-      let text : Txt = told_act schema entry.act in
+      let text : Txt = act_statement schema entry.act in
       let begins = told-begins schema entry.act stated in
       let commands =
       makes_statement-it text begins.word begins.words again.back.statement begins.are begins.plain
@@ -186,9 +186,9 @@ module _ (before later : History) (entry : Entry)
   clock-moves : (world : World) → int_le world.clock entry.moment ≡ true
       → effect_of before world (command_of (text_line (codes "at " ++ moment_text entry.moment)))
       ≡ only_reply (record world { clock = entry.moment }) (done_line Nobody)
-  clock-moves world no_earlier =
+  clock-moves world clamped_number =
       ap (effect_of before world) (sets-it entry.moment (follows before entry may).moment_fits)
-      ∙ ap (judgement_effect before world Nobody) (clock-judged world entry.moment no_earlier)
+      ∙ ap (judgement_effect before world Nobody) (clock-judged world entry.moment clamped_number)
 
 -- the clock is set as the script says, and is no later than the next entry
 record Stands (clock : Option Moment) (world : World) (later : History) : Type 0 where

@@ -27,7 +27,7 @@ use Rattle.hippo_model.specs.Values.{fits, has_kind}
 use Rattle.hippo_model.specs.Versions.{is_live, key_fits, row_fits, version_fits}
 use Rattle.hippo_report.specs.Cells.{comma, separated_text}
 use Rattle.hippo_typing_laws.proofs.HistoryLemmas.{passes_so}
-use Rattle.hippo_history_statements.specs.Telling.{column_definition, kind_text, literal_text, literals_text, name_at, names_text, not_null_text, assigned_text, row_text, key_text, retention_text, rule_text, set_places, subject_text, table_named, told_act, with_text, create_text, insert_text, update_text, delete_text}
+use Rattle.hippo_history_statements.specs.Telling.{column_definition, kind_text, literal_text, literals_text, name_at, names_text, not_null_text, assigned_text, row_text, key_text, retention_text, rule_text, set_places, subject_text, table_named, act_statement, with_text, create_text, insert_text, update_text, delete_text}
 use Rattle.hippo_history_laws.specs.TellingLaws.{is_stated}
 use Rattle.hippo_history_laws.proofs.ChangeTheorem.{sets_within}
 use Rattle.hippo_history_laws.proofs.EntryTheorem.{has, key-within}
@@ -241,7 +241,7 @@ module _ (meaning : Meaning) (before : History) (valid : is_valid meaning before
   schema_for act = option_and_then (schema_at before) (table_named act)
 
   pub told-inner : (act : Act) → act_is_keepable act ≡ true → is_acceptable meaning before act
-      ≡ true → is_stated (schema_for act) act ≡ true → AreInner (told_act (schema_for act) act)
+      ≡ true → is_stated (schema_for act) act ≡ true → AreInner (act_statement (schema_for act) act)
   told-inner (Create schema) kept fit stated =
       create-inner schema
       (has-names schema (is_table schema (and_parts _ (is_well_formed schema) fit).1) kept)
@@ -263,7 +263,7 @@ module _ (meaning : Meaning) (before : History) (valid : is_valid meaning before
       let parts = and_parts (is_folded_name table) (cells_are_keepable row) kept in
       let named = (has meaning before valid table schema made.is).columns_fit in
       let within = key-within meaning before valid table schema made.is in
-      subst (λ (s : Option Schema). AreInner (told_act s (Update table row))) (sym made.is)
+      subst (λ (s : Option Schema). AreInner (act_statement s (Update table row))) (sym made.is)
       (update-inner schema.columns schema.key table row parts.0
       (written-row row (and_parts (has_count row) (list_all value_is_keepable row) parts.1).1
       (plain-row schema.columns row fitting))
@@ -278,7 +278,7 @@ module _ (meaning : Meaning) (before : History) (valid : is_valid meaning before
       (and_parts _ (key_fits schema key) (and_parts _ (is_live schema before key) made.fits).0).1 in
       let parts = and_parts (is_folded_name table) (cells_are_keepable key) kept in
       let named = (has meaning before valid table schema made.is).columns_fit in
-      subst (λ (s : Option Schema). AreInner (told_act s (Delete table key))) (sym made.is)
+      subst (λ (s : Option Schema). AreInner (act_statement s (Delete table key))) (sym made.is)
       (delete-inner schema.columns schema.key table key parts.0
       (written-row key (and_parts (has_count key) (list_all value_is_keepable key) parts.1).1
       (plain-row (filter_map (slice_get schema.columns) schema.key) key fitting))
@@ -293,7 +293,7 @@ module _ (meaning : Meaning) (before : History) (valid : is_valid meaning before
       names_folded schema.columns places (has meaning before valid table schema made.is).columns_fit
       (and_parts _ (all_within schema.columns places) made.fits).1 in
       subst (λ (s : Option Schema). AreInner
-      (told_act s (Allow purpose recipient table places item days))) (sym made.is)
+      (act_statement s (Allow purpose recipient table places item days))) (sym made.is)
       (both (codes "ALLOW ") _ (said refl)
       (both (rule_text schema.columns purpose recipient table places) _
       (rule-inner schema.columns purpose recipient table places able.names named)
@@ -306,7 +306,7 @@ module _ (meaning : Meaning) (before : History) (valid : is_valid meaning before
       let named =
       names_folded schema.columns places (has meaning before valid table schema made.is).columns_fit
       (and_parts _ (all_within schema.columns places) made.fits).1 in
-      subst (λ (s : Option Schema). AreInner (told_act s (Revoke purpose recipient table places)))
+      subst (λ (s : Option Schema). AreInner (act_statement s (Revoke purpose recipient table places)))
       (sym made.is)
       (both (codes "REVOKE ") _ (said refl)
       (rule-inner schema.columns purpose recipient table places (names-kept purpose recipient table places kept)

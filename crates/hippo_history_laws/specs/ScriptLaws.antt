@@ -23,7 +23,7 @@ use Rattle.hippo_engine_sessions.specs.Worlds.{World, opening}
 use Rattle.hippo_stmt_lines.specs.Commands.{command_of}
 use Rattle.hippo_model.specs.HandedOver.{is_question}
 use Rattle.hippo_engine_rules.specs.Effects.{Effect, effect_of}
-use Rattle.hippo_history_statements.specs.Telling.{schema_before, told_act}
+use Rattle.hippo_history_statements.specs.Telling.{schema_before, act_statement}
 use Rattle.hippo_history_laws.specs.TellingLaws.{is_stated}
 use Rattle.hippo_history_top.specs.declared.asking.Excerpt.{Excerpt}
 use Rattle.hippo_history_top.specs.declared.asking.Form.TheVariants.{Script}
@@ -75,7 +75,7 @@ question_lines user purpose recipient text =
 -- .. and a statement is a line of the console
 abbrev pub act_script : Option Schema → Act → List Txt
 act_script schema (Asked user purpose recipient text) = question_lines user purpose recipient text
-act_script schema act = (codes "0 " ++ told_act schema act) ∷ []
+act_script schema act = (codes "0 " ++ act_statement schema act) ∷ []
 
 abbrev pub entry_lines : History → Entry → List Txt
 entry_lines history entry = act_script (schema_before history entry) entry.act

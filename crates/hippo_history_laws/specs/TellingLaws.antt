@@ -22,7 +22,7 @@ use Rattle.hippo_typing_catalog.specs.Catalogs.{known_at, table_of}
 use Rattle.hippo_typing_catalog.specs.ChangesRefused.{change_refused}
 use Rattle.hippo_typing_catalog.specs.ChangesWanted.{wanted_by}
 use Rattle.hippo_tables.specs.Finished.{finished_act, live_row, live_number}
-use Rattle.hippo_history_statements.specs.Telling.{told_act, set_places, columns_of, key_places, schema_before}
+use Rattle.hippo_history_statements.specs.Telling.{act_statement, set_places, columns_of, key_places, schema_before}
 
 -- a text parses as this statement: it is cut into tokens, its words are accepted, and the tokens
 -- are the statement
@@ -35,7 +35,7 @@ pub record ReadsAs (text : Txt) (statement : Stmt) : Type 0 where
 -- the text of an act parses as a statement that, after the history, asks for exactly this act
 pub record ReadsBack (history : History) (schema : Option Schema) (act : Act) : Type 0 where
   pub statement : Stmt
-  pub reads : ReadsAs (told_act schema act) statement
+  pub reads : ReadsAs (act_statement schema act) statement
   pub wanted : Wanted
   pub wants : wanted_by (known_at history) statement ≡ Some wanted
   pub comes : finished_act history wanted ≡ Ok act

@@ -12,7 +12,7 @@ use Rattle.hippo_model.specs.declared.schema.ColumnKind.{ColumnKind}
 use Rattle.hippo_model.specs.declared.schema.ColumnKind.TheVariants.{Integer, Text as TextColumn, Date}
 use Rattle.hippo_model.specs.declared.schema.Schema.{Schema}
 use Rattle.hippo_model.specs.Terms.{History}
-use Rattle.hippo_history_statements.specs.Telling.{literal_text, told_act, told_entry}
+use Rattle.hippo_history_statements.specs.Telling.{literal_text, act_statement, told_entry}
 
 abbrev column : Txt → ColumnKind → Column
 column name kind = record { name = name; kind = kind; not_null = false }
@@ -42,16 +42,16 @@ wards = record {
 }
 
 abbrev of_patients : Act → Txt
-of_patients act = told_act (Some patients) act
+of_patients act = act_statement (Some patients) act
 
 abbrev of_wards : Act → Txt
-of_wards act = told_act (Some wards) act
+of_wards act = act_statement (Some wards) act
 
-table_with_subject : told_act None (Create patients)
+table_with_subject : act_statement None (Create patients)
     ≡ codes "CREATE TABLE patient (pid INTEGER NOT NULL, name TEXT NOT NULL, phone TEXT, born DATE, PRIMARY KEY (pid), SUBJECT pid)"
 table_with_subject = refl
 
-key_of_two_in_its_order : told_act None (Create wards)
+key_of_two_in_its_order : act_statement None (Create wards)
     ≡ codes "CREATE TABLE ward (site TEXT NOT NULL, room TEXT NOT NULL, beds INTEGER, head TEXT, PRIMARY KEY (room, site))"
 key_of_two_in_its_order = refl
 
@@ -71,23 +71,23 @@ deleted_by_its_key : of_wards (Delete (codes "ward") (Text (codes "r12") ∷ Tex
     ≡ codes "DELETE FROM ward WHERE room = 'r12' AND site = 'south'"
 deleted_by_its_key = refl
 
-purpose : told_act None (Purpose (codes "treatment")) ≡ codes "CREATE PURPOSE treatment"
+purpose : act_statement None (Purpose (codes "treatment")) ≡ codes "CREATE PURPOSE treatment"
 purpose = refl
 
-recipient : told_act None (Recipient (codes "nurse")) ≡ codes "CREATE RECIPIENT nurse"
+recipient : act_statement None (Recipient (codes "nurse")) ≡ codes "CREATE RECIPIENT nurse"
 recipient = refl
 
-opt_in : told_act None (Item (codes "contact") OptIn) ≡ codes "CREATE ITEM contact OPT IN"
+opt_in : act_statement None (Item (codes "contact") OptIn) ≡ codes "CREATE ITEM contact OPT IN"
 opt_in = refl
 
-opt_out : told_act None (Item (codes "mail") OptOut) ≡ codes "CREATE ITEM mail OPT OUT"
+opt_out : act_statement None (Item (codes "mail") OptOut) ≡ codes "CREATE ITEM mail OPT OUT"
 opt_out = refl
 
-authorized : told_act None (Authorize (codes "dora") (codes "treatment") (codes "nurse"))
+authorized : act_statement None (Authorize (codes "dora") (codes "treatment") (codes "nurse"))
     ≡ codes "AUTHORIZE dora FOR treatment, nurse"
 authorized = refl
 
-no_longer_authorized : told_act None (Deauthorize (codes "dora") (codes "treatment") (codes "nurse"))
+no_longer_authorized : act_statement None (Deauthorize (codes "dora") (codes "treatment") (codes "nurse"))
     ≡ codes "DEAUTHORIZE dora FOR treatment, nurse"
 no_longer_authorized = refl
 
@@ -103,10 +103,10 @@ revoked : of_patients (Revoke (codes "treatment") (codes "nurse") patient (2 ∷
     ≡ codes "REVOKE treatment TO nurse ON patient (phone, pid)"
 revoked = refl
 
-yes : told_act None (Choice (pos 7) (codes "contact") true) ≡ codes "CHOICE " ++ (decimal 7 ++ codes " ON contact IS YES")
+yes : act_statement None (Choice (pos 7) (codes "contact") true) ≡ codes "CHOICE " ++ (decimal 7 ++ codes " ON contact IS YES")
 yes = refl
 
-no_longer : told_act None (Choice (negsuc 0) (codes "mail") false) ≡ codes "CHOICE -" ++ (decimal 1 ++ codes " ON mail IS NO")
+no_longer : act_statement None (Choice (negsuc 0) (codes "mail") false) ≡ codes "CHOICE -" ++ (decimal 1 ++ codes " ON mail IS NO")
 no_longer = refl
 
 -- a history in which the table comes before the rule

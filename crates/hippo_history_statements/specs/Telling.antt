@@ -156,24 +156,26 @@ key_places schema = option_map_or (λ known. known.key) schema []
 
 -- the statement that made an act, with the schema of the table that it names; a question is written
 -- as its user, purpose, recipient and text
-abbrev pub told_act : Option Schema → Act → Txt
-told_act schema (Create made) = create_text made
-told_act schema (Insert table row) = insert_text table row
-told_act schema (Update table row) = update_text (columns_of schema) (key_places schema) table row
-told_act schema (Delete table key) = delete_text (columns_of schema) (key_places schema) table key
-told_act schema (Purpose purpose) = codes "CREATE PURPOSE " ++ purpose
-told_act schema (Recipient recipient) = codes "CREATE RECIPIENT " ++ recipient
-told_act schema (Item item kind) = item_text item kind
-told_act schema (Authorize user purpose recipient) =
+abbrev pub act_statement : Option Schema → Act → Txt
+act_statement schema (Create made) = create_text made
+act_statement schema (Insert table row) = insert_text table row
+act_statement schema (Update table row) =
+    update_text (columns_of schema) (key_places schema) table row
+act_statement schema (Delete table key) =
+    delete_text (columns_of schema) (key_places schema) table key
+act_statement schema (Purpose purpose) = codes "CREATE PURPOSE " ++ purpose
+act_statement schema (Recipient recipient) = codes "CREATE RECIPIENT " ++ recipient
+act_statement schema (Item item kind) = item_text item kind
+act_statement schema (Authorize user purpose recipient) =
     codes "AUTHORIZE " ++ grant_text user purpose recipient
-told_act schema (Deauthorize user purpose recipient) =
+act_statement schema (Deauthorize user purpose recipient) =
     codes "DEAUTHORIZE " ++ grant_text user purpose recipient
-told_act schema (Allow purpose recipient table places item days) =
+act_statement schema (Allow purpose recipient table places item days) =
     allow_text (columns_of schema) purpose recipient table places item days
-told_act schema (Revoke purpose recipient table places) =
+act_statement schema (Revoke purpose recipient table places) =
     codes "REVOKE " ++ rule_text (columns_of schema) purpose recipient table places
-told_act schema (Choice subject item agreed) = choice_text subject item agreed
-told_act schema (Asked user purpose recipient text) = asked_text user purpose recipient text
+act_statement schema (Choice subject item agreed) = choice_text subject item agreed
+act_statement schema (Asked user purpose recipient text) = asked_text user purpose recipient text
 
 -- the table whose columns an act names by their places, or whose rows it changes
 abbrev pub table_named : Act → Option Name
@@ -193,7 +195,7 @@ schema_before history entry =
 abbrev pub entry_line : Option Schema → Entry → Txt
 entry_line schema entry =
     decimal entry.seq ++ (codes " " ++ (moment_text entry.moment
-    ++ (codes " " ++ (told_act schema entry.act ++ codes "\n"))))
+    ++ (codes " " ++ (act_statement schema entry.act ++ codes "\n"))))
 
 -- an entry of a history
 abbrev pub told_entry : History → Entry → Txt

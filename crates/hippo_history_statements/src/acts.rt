@@ -1,7 +1,7 @@
 //! The statement that made an act.
 ghost use Rattle.std.specs.Prelude.{◌≡◌, ◌++◌, option_copied, OnOk, OnErr};
-ghost use Rattle.hippo_values_text.specs.Printing.{AddsText};
-ghost use Rattle.hippo_history_statements.specs.Telling.{told_act, table_named};
+ghost use Rattle.hippo_values_text.specs.Printing.{AppendsText};
+ghost use Rattle.hippo_history_statements.specs.Telling.{act_statement, table_named};
 
 use crate::columns::{append_named, columns_of};
 use crate::rows::Version;
@@ -14,7 +14,7 @@ use hippo_values::{Memory, Name, RoomyTxt};
 use std::alloc::Global;
 
 /// Returns the table whose columns an act names by their places, or whose rows it changes.
-/// `tell_act` needs the schema of this table.
+/// `append_act_statement` needs the schema of this table.
 pub fn table_named(act: &Act) -> Option<&Name>
     ensures { option_copied result ≡ table_named act.now }
 {
@@ -34,7 +34,7 @@ fn append_act<const ROOM: usize>(
     act: &Act,
     out: &mut RoomyTxt<ROOM>,
 ) -> Result<(), Memory>
-    ensures adds { AddsText (told_act (option_copied schema.entry) act.now) result out.old out.new }
+    ensures adds { AppendsText (act_statement (option_copied schema.entry) act.now) result out.old out.new }
 {
     let columns = columns_of(schema);
     match act {
@@ -90,13 +90,13 @@ fn append_act<const ROOM: usize>(
 /// outside the key, so its text may be longer than the line that made it, and longer than a line
 /// may be. A question is written as its user, purpose, recipient and text. When out of memory, the
 /// text is unchanged.
-pub fn tell_act<const ROOM: usize>(
+pub fn append_act_statement<const ROOM: usize>(
     alloc: Global,
     schema: Option<&Schema>,
     act: &Act,
     out: &mut RoomyTxt<ROOM>,
 ) -> Result<(), Memory>
-    ensures ok { OnOk result (out.new ≡ out.old ++ told_act (option_copied schema.entry) act.now) }
+    ensures ok { OnOk result (out.new ≡ out.old ++ act_statement (option_copied schema.entry) act.now) }
     ensures err { OnErr result (out.new ≡ out.old) }
 {
     let length = out.as_str().len();

@@ -1,6 +1,6 @@
 //! Columns by their places, alone and with values.
 ghost use Rattle.std.specs.Prelude.{◌≡◌, ◌++◌, option_copied, OnOk, OnErr};
-ghost use Rattle.hippo_values_text.specs.Printing.{AddsText, KeepsFront};
+ghost use Rattle.hippo_values_text.specs.Printing.{AppendsText, KeepsFront};
 ghost use Rattle.hippo_history_statements.specs.Telling.{columns_of, name_at, names_text, assigned_text};
 
 use crate::joining::{Spelling, append_joined};
@@ -24,7 +24,7 @@ pub fn append_named<const ROOM: usize>(
     name: &Name,
     out: &mut RoomyTxt<ROOM>,
 ) -> Result<(), Memory>
-    ensures adds { AddsText (words.now ++ name.now) result out.old out.new }
+    ensures adds { AppendsText (words.now ++ name.now) result out.old out.new }
 {
     out.append(words)?;
     out.append(name.as_str())
@@ -36,7 +36,7 @@ pub fn append_name<const ROOM: usize>(
     place: usize,
     out: &mut RoomyTxt<ROOM>,
 ) -> Result<(), Memory>
-    ensures adds { AddsText (name_at columns.now place) result out.old out.new }
+    ensures adds { AppendsText (name_at columns.now place) result out.old out.new }
 {
     match columns.get(place) {
         Some(column) => out.append(column.name.as_str()),
@@ -66,7 +66,7 @@ fn append_names<const ROOM: usize>(
     places: &[usize],
     out: &mut RoomyTxt<ROOM>,
 ) -> Result<(), Memory>
-    ensures adds { AddsText (names_text columns.now places.now) result out.old out.new }
+    ensures adds { AppendsText (names_text columns.now places.now) result out.old out.new }
 {
     append_joined(&ColumnNames { columns }, ", ", places, out)
 }
@@ -80,7 +80,7 @@ pub fn append_listed<const ROOM: usize>(
     remaining: &str,
     out: &mut RoomyTxt<ROOM>,
 ) -> Result<(), Memory>
-    ensures adds { AddsText (before.now ++ (names_text columns.now places.now ++ remaining.now))
+    ensures adds { AppendsText (before.now ++ (names_text columns.now places.now ++ remaining.now))
         result out.old out.new }
 {
     out.append(before)?;

@@ -1,6 +1,6 @@
 //! Lists with a separator between their members.
 ghost use Rattle.std.specs.Prelude.{◌++◌, flat_map};
-ghost use Rattle.hippo_values_text.specs.Printing.{AddsText};
+ghost use Rattle.hippo_values_text.specs.Printing.{AppendsText};
 ghost use Rattle.hippo_report.specs.Cells.{separated_text};
 
 use hippo_values::{Memory, RoomyTxt};
@@ -14,7 +14,7 @@ pub trait Spelling<T, const ROOM: usize> {
 
     /// Appends the text of a member.
     fn spell(&self, member: &T, out: &mut RoomyTxt<ROOM>) -> Result<(), Memory>
-        ensures adds { AddsText (text self.now member.now) result out.old out.new };
+        ensures adds { AppendsText (text self.now member.now) result out.old out.new };
 }
 
 fn append_later<const ROOM: usize, T, S: Spelling<T, ROOM>>(
@@ -23,7 +23,7 @@ fn append_later<const ROOM: usize, T, S: Spelling<T, ROOM>>(
     rest: &[T],
     out: &mut RoomyTxt<ROOM>,
 ) -> Result<(), Memory>
-    ensures adds { AddsText (flat_map (λ member. separator.now
+    ensures adds { AppendsText (flat_map (λ member. separator.now
         ++ S.text spelling.now member) rest.now) result out.old out.new }
 {
     for member in rest {
@@ -40,7 +40,7 @@ pub fn append_joined<const ROOM: usize, T, S: Spelling<T, ROOM>>(
     members: &[T],
     out: &mut RoomyTxt<ROOM>,
 ) -> Result<(), Memory>
-    ensures adds { AddsText (separated_text (S.text spelling.now) separator.now members.now)
+    ensures adds { AppendsText (separated_text (S.text spelling.now) separator.now members.now)
         result out.old out.new }
 {
     let Some((first, rest)) = members.split_first() else {

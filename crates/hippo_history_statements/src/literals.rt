@@ -1,7 +1,7 @@
 //! Values as literals.
 ghost use Rattle.std.specs.Prelude.{◌++◌, codes};
 ghost use Rattle.hippo_values_text.specs.Dates.{day_text};
-ghost use Rattle.hippo_values_text.specs.Printing.{AddsText};
+ghost use Rattle.hippo_values_text.specs.Printing.{AppendsText};
 ghost use Rattle.hippo_history_statements.specs.Telling.{literal_text, literals_text};
 
 use crate::joining::{Spelling, append_joined};
@@ -9,7 +9,7 @@ use hippo_values::{DayNumber, Memory, RoomyTxt, Value};
 use hippo_values_text::{append_value, day_text};
 
 fn append_day<const ROOM: usize>(day: DayNumber, out: &mut RoomyTxt<ROOM>) -> Result<(), Memory>
-    ensures adds { AddsText (codes "DATE '" ++ (day_text day ++ codes "'")) result out.old out.new }
+    ensures adds { AppendsText (codes "DATE '" ++ (day_text day ++ codes "'")) result out.old out.new }
 {
     match str::from_utf8(&day_text(day)) {
         Ok(text) => {
@@ -27,7 +27,7 @@ pub fn append_literal<const ROOM: usize>(
     value: &Value,
     out: &mut RoomyTxt<ROOM>,
 ) -> Result<(), Memory>
-    ensures adds { AddsText (literal_text value.now) result out.old out.new }
+    ensures adds { AppendsText (literal_text value.now) result out.old out.new }
 {
     match value {
         Value::Day(day) => append_day(*day, out),
@@ -54,7 +54,7 @@ pub fn append_literals<const ROOM: usize>(
     values: &[Value],
     out: &mut RoomyTxt<ROOM>,
 ) -> Result<(), Memory>
-    ensures adds { AddsText (literals_text values.now) result out.old out.new }
+    ensures adds { AppendsText (literals_text values.now) result out.old out.new }
 {
     append_joined(&Literals, ", ", values, out)
 }

@@ -1,7 +1,7 @@
 //! Rows that are inserted, updated or deleted.
 ghost use Rattle.std.specs.Prelude.{◌≡◌, ◌++◌, filter, flat_map, nat_eq, option_copied, IfOk, OnOk, OnErr};
 ghost use Rattle.std.specs.List.{list_any, range_with_len, zip};
-ghost use Rattle.hippo_values_text.specs.Printing.{AddsText, KeepsFront};
+ghost use Rattle.hippo_values_text.specs.Printing.{AppendsText, KeepsFront};
 ghost use Rattle.hippo_history_statements.specs.Telling.{is_set, assigned_text, literals_text, columns_of, key_places, row_text, key_text, insert_text, update_text, delete_text};
 
 use crate::columns::{append_assigned, append_named, columns_of};
@@ -52,7 +52,7 @@ fn append_pair<const ROOM: usize>(
     value: &Value,
     out: &mut RoomyTxt<ROOM>,
 ) -> Result<(), Memory>
-    ensures adds { AddsText (separator.now ++ assigned_text columns.now place value.now)
+    ensures adds { AppendsText (separator.now ++ assigned_text columns.now place value.now)
         result out.old out.new }
 {
     out.append(separator)?;
@@ -66,7 +66,7 @@ fn append_key_later<const ROOM: usize>(
     values: &[Value],
     out: &mut RoomyTxt<ROOM>,
 ) -> Result<(), Memory>
-    ensures adds { AddsText (flat_map (λ pair. separator.now
+    ensures adds { AppendsText (flat_map (λ pair. separator.now
         ++ assigned_text columns.now pair.0 pair.1) (zip places.now values.now))
         result out.old out.new }
 {
@@ -83,7 +83,7 @@ fn append_key<const ROOM: usize>(
     key: &[Value],
     out: &mut RoomyTxt<ROOM>,
 ) -> Result<(), Memory>
-    ensures adds { AddsText (key_text columns.now places.now key.now) result out.old out.new }
+    ensures adds { AppendsText (key_text columns.now places.now key.now) result out.old out.new }
 {
     let Some((place, places)) = places.split_first() else {
         return Ok(());
@@ -127,7 +127,7 @@ fn append_values<const ROOM: usize>(
     remaining: &str,
     out: &mut RoomyTxt<ROOM>,
 ) -> Result<(), Memory>
-    ensures adds { AddsText (before.now ++ (literals_text row.now ++ remaining.now))
+    ensures adds { AppendsText (before.now ++ (literals_text row.now ++ remaining.now))
         result out.old out.new }
 {
     out.append(before)?;
@@ -153,7 +153,7 @@ impl<'a> Version<'a> {
 
     /// Appends an INSERT of the row.
     pub fn insert<const ROOM: usize>(&self, out: &mut RoomyTxt<ROOM>) -> Result<(), Memory>
-        ensures adds { AddsText (insert_text self.now.table.now self.now.cells.now)
+        ensures adds { AppendsText (insert_text self.now.table.now self.now.cells.now)
             result out.old out.new }
     {
         append_named("INSERT INTO ", self.table, out)?;
@@ -196,7 +196,7 @@ impl<'a> Version<'a> {
         alloc: Global,
         out: &mut RoomyTxt<ROOM>,
     ) -> Result<(), Memory>
-        ensures adds { AddsText (update_text self.now.columns.now self.now.key.now
+        ensures adds { AppendsText (update_text self.now.columns.now self.now.key.now
             self.now.table.now self.now.cells.now) result out.old out.new }
     {
         let places = set_places(alloc, self.columns.len(), self.key)?;
@@ -207,7 +207,7 @@ impl<'a> Version<'a> {
 
     /// Appends a DELETE of the row with the key.
     pub fn delete<const ROOM: usize>(&self, out: &mut RoomyTxt<ROOM>) -> Result<(), Memory>
-        ensures adds { AddsText (delete_text self.now.columns.now self.now.key.now
+        ensures adds { AppendsText (delete_text self.now.columns.now self.now.key.now
             self.now.table.now self.now.cells.now) result out.old out.new }
     {
         append_named("DELETE FROM ", self.table, out)?;

@@ -1,6 +1,6 @@
 //! Users, rules, choices and questions.
 ghost use Rattle.std.specs.Prelude.{◌≡◌, ◌++◌, option_copied};
-ghost use Rattle.hippo_values_text.specs.Printing.{AddsText};
+ghost use Rattle.hippo_values_text.specs.Printing.{AppendsText};
 ghost use Rattle.hippo_history_statements.specs.Telling.{item_kind_text, item_text, grant_text, rule_text, with_text, retention_text, allow_text, agreed_text, choice_text, asked_text};
 
 use crate::columns::{append_listed, append_named};
@@ -23,7 +23,7 @@ fn append_ended<const ROOM: usize>(
     remaining: &str,
     out: &mut RoomyTxt<ROOM>,
 ) -> Result<(), Memory>
-    ensures adds { AddsText (words.now ++ (name.now ++ remaining.now)) result out.old out.new }
+    ensures adds { AppendsText (words.now ++ (name.now ++ remaining.now)) result out.old out.new }
 {
     append_named(words, name, out)?;
     out.append(remaining)
@@ -35,7 +35,7 @@ pub fn append_item<const ROOM: usize>(
     kind: ItemKind,
     out: &mut RoomyTxt<ROOM>,
 ) -> Result<(), Memory>
-    ensures adds { AddsText (item_text item.now kind) result out.old out.new }
+    ensures adds { AppendsText (item_text item.now kind) result out.old out.new }
 {
     append_ended("CREATE ITEM ", item, item_kind_text(kind), out)
 }
@@ -48,7 +48,7 @@ pub fn append_grant<const ROOM: usize>(
     recipient: &Name,
     out: &mut RoomyTxt<ROOM>,
 ) -> Result<(), Memory>
-    ensures adds { AddsText (word.now ++ grant_text user.now purpose.now recipient.now)
+    ensures adds { AppendsText (word.now ++ grant_text user.now purpose.now recipient.now)
         result out.old out.new }
 {
     append_named(word, user, out)?;
@@ -92,7 +92,7 @@ pub fn append_rule<const ROOM: usize>(
     rule: &Rule<'_>,
     out: &mut RoomyTxt<ROOM>,
 ) -> Result<(), Memory>
-    ensures adds { AddsText (word.now
+    ensures adds { AppendsText (word.now
         ++ rule_text columns.now rule.now.purpose.now rule.now.recipient.now rule.now.table.now
         rule.now.places.now) result out.old out.new }
 {
@@ -107,7 +107,7 @@ fn append_with<const ROOM: usize>(
     item: Option<&Name>,
     out: &mut RoomyTxt<ROOM>,
 ) -> Result<(), Memory>
-    ensures adds { AddsText (with_text (option_copied item.entry)) result out.old out.new }
+    ensures adds { AppendsText (with_text (option_copied item.entry)) result out.old out.new }
 {
     match item {
         None => Ok(()),
@@ -120,7 +120,7 @@ fn append_retention<const ROOM: usize>(
     days: Option<u32>,
     out: &mut RoomyTxt<ROOM>,
 ) -> Result<(), Memory>
-    ensures adds { AddsText (retention_text days) result out.old out.new }
+    ensures adds { AppendsText (retention_text days) result out.old out.new }
 {
     match days {
         None => Ok(()),
@@ -140,7 +140,7 @@ pub fn append_allow<const ROOM: usize>(
     days: Option<u32>,
     out: &mut RoomyTxt<ROOM>,
 ) -> Result<(), Memory>
-    ensures adds { AddsText (allow_text columns.now rule.now.purpose.now rule.now.recipient.now
+    ensures adds { AppendsText (allow_text columns.now rule.now.purpose.now rule.now.recipient.now
         rule.now.table.now rule.now.places.now (option_copied item.entry) days)
         result out.old out.new }
 {
@@ -162,7 +162,7 @@ pub fn append_choice<const ROOM: usize>(
     agreed: bool,
     out: &mut RoomyTxt<ROOM>,
 ) -> Result<(), Memory>
-    ensures adds { AddsText (choice_text subject.now item.now agreed) result out.old out.new }
+    ensures adds { AppendsText (choice_text subject.now item.now agreed) result out.old out.new }
 {
     out.append("CHOICE ")?;
     out.append(Buffer::new().format(*subject))?;
@@ -178,7 +178,7 @@ pub fn append_asked<const ROOM: usize>(
     text: &Txt,
     out: &mut RoomyTxt<ROOM>,
 ) -> Result<(), Memory>
-    ensures adds { AddsText (asked_text user.now purpose.now recipient.now text.now)
+    ensures adds { AppendsText (asked_text user.now purpose.now recipient.now text.now)
         result out.old out.new }
 {
     append_named("", user, out)?;

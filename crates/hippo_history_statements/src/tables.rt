@@ -1,6 +1,6 @@
 //! Tables that are created.
 ghost use Rattle.std.specs.Prelude.{◌≡◌, ◌++◌, OnOk, OnErr};
-ghost use Rattle.hippo_values_text.specs.Printing.{AddsText, KeepsFront};
+ghost use Rattle.hippo_values_text.specs.Printing.{AppendsText, KeepsFront};
 ghost use Rattle.hippo_report.specs.Cells.{separated_text, comma};
 ghost use Rattle.hippo_history_statements.specs.Telling.{kind_text, not_null_text, column_definition, names_text, subject_text, create_text};
 
@@ -26,7 +26,7 @@ fn not_null_text(not_null: bool) -> &'static str
 }
 
 fn append_column<const ROOM: usize>(column: &Column, out: &mut RoomyTxt<ROOM>) -> Result<(), Memory>
-    ensures adds { AddsText (column_definition column.now) result out.old out.new }
+    ensures adds { AppendsText (column_definition column.now) result out.old out.new }
 {
     out.append(column.name.as_str())?;
     out.append(kind_text(column.kind))?;
@@ -51,7 +51,7 @@ fn append_definitions<const ROOM: usize>(
     columns: &[Column],
     out: &mut RoomyTxt<ROOM>,
 ) -> Result<(), Memory>
-    ensures adds { AddsText (separated_text column_definition comma columns.now)
+    ensures adds { AppendsText (separated_text column_definition comma columns.now)
         result out.old out.new }
 {
     append_joined(&ColumnDefinitions, ", ", columns, out)
@@ -62,7 +62,7 @@ fn append_subject<const ROOM: usize>(
     subject: Option<usize>,
     out: &mut RoomyTxt<ROOM>,
 ) -> Result<(), Memory>
-    ensures adds { AddsText (subject_text columns.now subject) result out.old out.new }
+    ensures adds { AppendsText (subject_text columns.now subject) result out.old out.new }
 {
     match subject {
         None => Ok(()),
@@ -95,7 +95,7 @@ fn append_end<const ROOM: usize>(
     end: &str,
     out: &mut RoomyTxt<ROOM>,
 ) -> Result<(), Memory>
-    ensures adds { AddsText (subject_text columns.now subject ++ end.now) result out.old out.new }
+    ensures adds { AppendsText (subject_text columns.now subject ++ end.now) result out.old out.new }
 {
     append_subject(columns, subject, out)?;
     out.append(end)
@@ -109,7 +109,7 @@ fn append_created<const ROOM: usize>(
     end: &str,
     out: &mut RoomyTxt<ROOM>,
 ) -> Result<(), Memory>
-    ensures adds { AddsText (words.now ++ (schema.now.name ++ (before_columns.now
+    ensures adds { AppendsText (words.now ++ (schema.now.name ++ (before_columns.now
         ++ (separated_text column_definition comma schema.now.columns ++ (before_key.now
         ++ (names_text schema.now.columns schema.now.key ++ (end.now
         ++ (subject_text schema.now.columns schema.now.subject ++ end.now))))))))
@@ -126,7 +126,7 @@ pub fn append_create<const ROOM: usize>(
     schema: &Schema,
     out: &mut RoomyTxt<ROOM>,
 ) -> Result<(), Memory>
-    ensures adds { AddsText (create_text schema.now) result out.old out.new }
+    ensures adds { AppendsText (create_text schema.now) result out.old out.new }
 {
     append_created("CREATE TABLE ", " (", ", PRIMARY KEY (", schema, ")", out)
 }

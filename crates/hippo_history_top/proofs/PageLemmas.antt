@@ -4,11 +4,11 @@ use Rattle.std.proofs.lemmas.Bool.{false≢true}
 use Rattle.hippo_values.specs.Texts.{Txt}
 use Rattle.hippo_io.specs.Told.{Appends, AppendsFront}
 use Rattle.hippo_model.specs.Terms.{History}
-use Rattle.hippo_policy.specs.Books.{BookStandsFor}
+use Rattle.hippo_policy.specs.Books.{BookRepresents}
 use Rattle.hippo_keeper.specs.Answering.{has_failed}
 use Rattle.hippo_keeper.specs.Keeping.{KeeperState, IsReady}
 use Rattle.hippo_keeper.proofs.CallLemmas.{IsAfterCall-none, KeepsSame-here}
-use Rattle.hippo_replay.specs.Standing.{StandsFor}
+use Rattle.hippo_replay.specs.Standing.{Represents}
 use Rattle.hippo_replay.specs.declared.state.State.{State}
 use Rattle.hippo_history_top.specs.declared.asking.Excerpt.{Excerpt}
 use Rattle.hippo_history_top.specs.declared.asking.Page.{Page}
@@ -79,7 +79,7 @@ module _ (state : State) (written written' : Option Txt) (faults faults' : ℕ) 
     steps = shows.steps;
   }
     where
-      named : (history : History) → StandsFor state history → entries_shown state.catalog.names excerpt None history ≡ shown_text (Entries excerpt) history
+      named : (history : History) → Represents state history → entries_shown state.catalog.names excerpt None history ≡ shown_text (Entries excerpt) history
       named history stands = ap (λ known. entries_shown known excerpt None history) stands.names ∙ told_by_names history stands.valid excerpt None
 
   -- the same holds of the rules, and nothing is read for them
@@ -87,20 +87,20 @@ module _ (state : State) (written written' : Option Txt) (faults faults' : ℕ) 
     abbrev text : History → Txt
     text history = rules_by_names state.catalog.names page.format page.scope (take page.last history)
 
-    named : (history : History) → StandsFor state history → text history ≡ shown_text (Rules page) history
+    named : (history : History) → Represents state history → text history ≡ shown_text (Rules page) history
     named history stands =
         ap (λ known. rules_by_names known page.format page.scope (take page.last history)) stands.names ∙ rules_of_first history stands.valid page.last page.format page.scope
 
     abbrev Loaded : Ending → Type 0
     Loaded result = ShowsLoaded state (Rules page) result keeper keeper written written' faults faults' ticks ticks
 
-    front : {cut : Option Ending} → WritesPage (BookStandsFor state.book) text cut written written' faults faults'
-        → (history : History) → StandsFor state history → AppendsFront written written' (shown_text (Rules page) history)
+    front : {cut : Option Ending} → WritesPage (BookRepresents state.book) text cut written written' faults faults'
+        → (history : History) → Represents state history → AppendsFront written written' (shown_text (Rules page) history)
     front writes history stands = subst (AppendsFront written written') (named history stands) (writes.front history stands.book)
 
     -- what cut the text short
     cut_short : (ending : Ending) → ends_showing (Some ending) ≡ true → ending ≢ Served → has_failed (ending_as_call ending) ≡ false
-        → WritesPage (BookStandsFor state.book) text (Some ending) written written' faults faults' → Loaded ending
+        → WritesPage (BookRepresents state.book) text (Some ending) written written' faults faults' → Loaded ending
     cut_short ending listed unended fine writes = record {
       call = IsAfterCall-none (ending_as_call ending) keeper fine ready;
       stays = λ tells. KeepsSame-here keeper;
@@ -112,7 +112,7 @@ module _ (state : State) (written written' : Option Txt) (faults faults' : ℕ) 
       steps = λ tells. omega arith;
     }
 
-    pub loaded_rules : (cut : Option Ending) → WritesPage (BookStandsFor state.book) text cut written written' faults faults' → Loaded (unwrap_or cut Served)
+    pub loaded_rules : (cut : Option Ending) → WritesPage (BookRepresents state.book) text cut written written' faults faults' → Loaded (unwrap_or cut Served)
     loaded_rules None writes = record {
       call = IsAfterCall-none (ending_as_call Served) keeper refl ready;
       stays = λ tells. KeepsSame-here keeper;

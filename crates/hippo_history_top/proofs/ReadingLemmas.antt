@@ -12,8 +12,8 @@ use Rattle.hippo_keeper.specs.declared.faults.KeeperFault.{KeeperFault as Fault}
 use Rattle.hippo_keeper.specs.declared.faults.KeeperFault.TheVariants as keeper_faults
 use Rattle.hippo_keeper.specs.Answering.{has_failed}
 use Rattle.hippo_keeper.specs.Keeping.{Store, RisesAbove, last_number, KeeperState, IsReady, IsAfterCall}
-use Rattle.hippo_keeper.specs.Selecting.{is_any, stored_versions, handed_over, ReadsEntries}
-use Rattle.hippo_replay.proofs.KeeperLemmas.{handed_over-remaining, nothing_taken}
+use Rattle.hippo_keeper.specs.Selecting.{is_any, stored_versions, selected_entries, ReadsEntries}
+use Rattle.hippo_replay.proofs.KeeperLemmas.{selected_entries-remaining, nothing_taken}
 use Rattle.hippo_keeper.proofs.CallLemmas.{KeepsSame-here, KeepsSame-then, KeepsSame-Stays, IsAfterCall-then, IsAfterCall-as, IsAfterCall-none, IsReady-after}
 use Rattle.hippo_keeper.proofs.Results.{err_of}
 use Rattle.hippo_replay.proofs.ReadingLemmas.{versions-append}
@@ -49,8 +49,8 @@ module _ (known : KnownNames) (excerpt : Excerpt) (max number : ℕ) (before aft
     (reads : ReadsEntries is_any number max (Ok piece) before after) (counted : steps' ≡ steps + stored_versions piece) where
   handed : after.tells → (read rest : Store) → IsReadUpTo number before read rest → piece ≡ take max rest
   handed tells read rest upto =
-      reads.ok.told tells ∙ ap (handed_over is_any number max) upto.whole
-      ∙ handed_over-remaining max number read rest upto.last (subst (λ (kept : Store). RisesAbove 0 kept) upto.whole upto.order)
+      reads.ok.told tells ∙ ap (selected_entries is_any number max) upto.whole
+      ∙ selected_entries-remaining max number read rest upto.last (subst (λ (kept : Store). RisesAbove 0 kept) upto.whole upto.order)
 
   remaining : after.tells → (read rest : Store) → IsReadUpTo number before read rest → rest ≡ piece ++ drop max rest
   remaining tells read rest upto = sym (take-append-drop max rest) ∙ ap (λ (front : Store). front ++ drop max rest) (sym (handed tells read rest upto))

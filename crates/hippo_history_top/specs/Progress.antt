@@ -11,7 +11,7 @@ use Rattle.hippo_model.specs.Terms.{History}
 use Rattle.hippo_typing_catalog.specs.Catalogs.{KnownNames}
 use Rattle.hippo_keeper.specs.Keeping.{Store, RisesAbove, last_number, KeeperState, IsReady, IsAfterCall, KeepsSame}
 use Rattle.hippo_keeper.specs.Selecting.{stored_versions}
-use Rattle.hippo_replay.specs.Standing.{StandsFor}
+use Rattle.hippo_replay.specs.Standing.{Represents}
 use Rattle.hippo_replay.specs.declared.state.State.{State}
 use Rattle.hippo_history_top.specs.declared.asking.Excerpt.{Excerpt}
 use Rattle.hippo_history_top.specs.declared.asking.View.{View}
@@ -134,10 +134,10 @@ pub record ShowsLoaded (state : State) (view : View) (result : Ending) (before a
   pub stays : after.tells → KeepsSame before after
   pub status : ends_showing (Some result) ≡ true
   pub writes : CountsWrites (Some result) faults faults'
-  pub whole : result ≡ Served → after.tells → (history : History) → StandsFor state history
+  pub whole : result ≡ Served → after.tells → (history : History) → Represents state history
       → HasForms before.kept history
       → Appends written written' (shown_text view history)
-  pub front : after.tells → (history : History) → StandsFor state history
+  pub front : after.tells → (history : History) → Represents state history
       → HasForms before.kept history
       → AppendsFront written written' (shown_text view history)
   pub damaged : result ≡ Damaged → after.tells → (history : History)

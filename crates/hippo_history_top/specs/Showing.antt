@@ -15,7 +15,7 @@ use Rattle.hippo_model.specs.Histories.{before_entry}
 use Rattle.hippo_model.specs.Terms.{History}
 use Rattle.hippo_typing_catalog.specs.Catalogs.{KnownNames, known_at}
 use Rattle.hippo_typing.specs.Meanings.{meaning_in}
-use Rattle.hippo_history_statements.specs.Telling.{told_act, schema_before}
+use Rattle.hippo_history_statements.specs.Telling.{act_statement, schema_before}
 use Rattle.hippo_model.specs.Validity.{creates_table}
 use Rattle.hippo_history_top.specs.declared.asking.Acts.{Acts}
 use Rattle.hippo_history_top.specs.declared.asking.Acts.TheVariants.{All, Tables}
@@ -72,7 +72,7 @@ session_lines user purpose recipient text =
 -- the lines that repeat an act, with the schema of the table that it names
 abbrev pub act_lines : Option Schema → Act → Txt
 act_lines schema (Asked user purpose recipient text) = session_lines user purpose recipient text
-act_lines schema act = console_lines (told_act schema act)
+act_lines schema act = console_lines (act_statement schema act)
 
 -- whether the clock is set to this moment
 abbrev pub stands_at : Option Moment → Moment → Bool
@@ -90,14 +90,16 @@ told_as history Script clock entry =
     clock_line clock entry.moment ++ act_lines (schema_before history entry) entry.act
 
 -- the entry, if it passes, and then the clock after it
-abbrev pub entry_where : (Entry → Bool) → (Option Moment → Entry → Txt) → Option Moment → Entry → Txt
+abbrev pub entry_where : (Entry → Bool) → (Option Moment → Entry → Txt) → Option Moment → Entry
+    → Txt
 entry_where passes lines clock entry = if passes entry then lines clock entry else []
 
 abbrev pub clock_where : (Entry → Bool) → Option Moment → Entry → Option Moment
 clock_where passes clock entry = if passes entry then Some entry.moment else clock
 
 -- entries of a history, one after another
-abbrev pub entries_where : (Entry → Bool) → (Option Moment → Entry → Txt) → Option Moment → History → Txt
+abbrev pub entries_where : (Entry → Bool) → (Option Moment → Entry → Txt) → Option Moment
+    → History → Txt
 entries_where passes lines clock [] = []
 entries_where passes lines clock (entry ∷ later) =
     entry_where passes lines clock entry

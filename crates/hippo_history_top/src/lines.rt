@@ -1,13 +1,13 @@
 //! The lines that show one entry.
 ghost use Rattle.std.specs.Prelude.{◌≡◌, ◌++◌, option_copied, OnOk, codes};
 ghost use Rattle.hippo_values_text.specs.Dates.{moment_text};
-ghost use Rattle.hippo_history_statements.specs.Telling.{told_act};
+ghost use Rattle.hippo_history_statements.specs.Telling.{act_statement};
 ghost use Rattle.hippo_history_top.specs.ByNames.{schema_named, shown_as};
 ghost use Rattle.hippo_history_top.specs.Showing.{console_lines, session_lines, act_lines, stands_at, clock_line};
 
 use crate::asking::Form;
 use hippo_history_formats::{Question, append_entry, append_moment, question_of};
-use hippo_history_statements::{table_named, tell_act};
+use hippo_history_statements::{append_act_statement, table_named};
 use hippo_model::{Act, Entry, Schema};
 use hippo_typing_catalog::Catalog;
 use hippo_values::{Memory, Moment, Txt};
@@ -56,10 +56,10 @@ fn append_clock(clock: &Option<Moment>, moment: &Moment, out: &mut Txt) -> Resul
 
 fn append_console(alloc: Global, catalog: &Catalog, act: &Act, out: &mut Txt) -> Result<(), Memory>
     ensures { OnOk result (out.new
-        ≡ out.old ++ console_lines (told_act (schema_named catalog.now.names act.now) act.now)) }
+        ≡ out.old ++ console_lines (act_statement (schema_named catalog.now.names act.now) act.now)) }
 {
     out.append("0 ")?;
-    tell_act(alloc, schema_named(catalog, act), act, out)?;
+    append_act_statement(alloc, schema_named(catalog, act), act, out)?;
     out.append("\n")
 }
 

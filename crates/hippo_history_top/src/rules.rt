@@ -2,7 +2,7 @@
 ghost use Rattle.std.specs.Prelude.{◌≡◌, ◌++◌, ◌&&◌, [], take, slice_get, is_some, OnOk};
 ghost use Rattle.std.specs.Option.{option_map_or};
 ghost use Rattle.hippo_model.specs.Terms.{History};
-ghost use Rattle.hippo_policy.specs.Books.{BookStandsFor};
+ghost use Rattle.hippo_policy.specs.Books.{BookRepresents};
 ghost use Rattle.hippo_policy.specs.Rulings.{ruling_of, opt_in_of, opt_in_at};
 ghost use Rattle.hippo_history_top.specs.Ruling.{column_rule, column_line, is_ruled, columns_shown, has_table, table_shown, tables_shown, recipients_shown, rules_by_names};
 
@@ -37,11 +37,11 @@ struct Group<'a> {
 
 // The rule of a column.
 fn ruling_at<'a>(policy: &Policy<'a>, group: &Group<'a>, place: usize) -> RuleAt<'a>
-    ensures rule { (history : History) → BookStandsFor policy.now.book.now history
+    ensures rule { (history : History) → BookRepresents policy.now.book.now history
         → ruling_of result
         ≡ column_rule (take policy.now.n history) group.now.purpose.now group.now.recipient.now
         group.now.schema.now place }
-    ensures silence { (history : History) → BookStandsFor policy.now.book.now history
+    ensures silence { (history : History) → BookRepresents policy.now.book.now history
         → opt_in_of result
         ≡ opt_in_at (take policy.now.n history) (column_rule (take policy.now.n history)
         group.now.purpose.now group.now.recipient.now group.now.schema.now place) }
@@ -58,7 +58,7 @@ fn append_column(
     place: usize,
     out: &mut Txt,
 ) -> Result<(), Memory>
-    ensures { OnOk result ((history : History) → BookStandsFor policy.now.book.now history → out.new
+    ensures { OnOk result ((history : History) → BookRepresents policy.now.book.now history → out.new
         ≡ out.old ++ column_line policy.now.format (take policy.now.n history)
         group.now.purpose.now group.now.recipient.now group.now.schema.now place) }
 {
@@ -73,7 +73,7 @@ fn append_column(
 }
 
 fn append_columns(policy: &Policy<'_>, group: &Group<'_>, out: &mut Txt) -> Result<(), Memory>
-    ensures { OnOk result ((history : History) → BookStandsFor policy.now.book.now history → out.new
+    ensures { OnOk result ((history : History) → BookRepresents policy.now.book.now history → out.new
         ≡ out.old ++ columns_shown policy.now.format (take policy.now.n history)
         group.now.purpose.now group.now.recipient.now group.now.schema.now) }
 {
@@ -84,7 +84,7 @@ fn append_columns(policy: &Policy<'_>, group: &Group<'_>, out: &mut Txt) -> Resu
 }
 
 fn has_rule(policy: &Policy<'_>, group: &Group<'_>, place: usize) -> bool
-    ensures { (history : History) → BookStandsFor policy.now.book.now history → result
+    ensures { (history : History) → BookRepresents policy.now.book.now history → result
         ≡ is_some (column_rule (take policy.now.n history)
         group.now.purpose.now group.now.recipient.now group.now.schema.now place) }
 {
@@ -96,7 +96,7 @@ fn has_rule(policy: &Policy<'_>, group: &Group<'_>, place: usize) -> bool
 
 // Whether some column has a rule.
 fn is_ruled(policy: &Policy<'_>, group: &Group<'_>) -> bool
-    ensures { (history : History) → BookStandsFor policy.now.book.now history → result
+    ensures { (history : History) → BookRepresents policy.now.book.now history → result
         ≡ is_ruled (take policy.now.n history)
         group.now.purpose.now group.now.recipient.now group.now.schema.now }
 {
@@ -119,7 +119,7 @@ fn has_table(scope: &Scope, table: &Name) -> bool
 
 // Whether the columns of a table are shown.
 fn is_shown(policy: &Policy<'_>, group: &Group<'_>) -> bool
-    ensures { (history : History) → BookStandsFor policy.now.book.now history → result
+    ensures { (history : History) → BookRepresents policy.now.book.now history → result
         ≡ (has_table policy.now.scope.now group.now.schema.now.name
         && is_ruled (take policy.now.n history)
         group.now.purpose.now group.now.recipient.now group.now.schema.now) }
@@ -128,7 +128,7 @@ fn is_shown(policy: &Policy<'_>, group: &Group<'_>) -> bool
 }
 
 fn append_table(policy: &Policy<'_>, group: &Group<'_>, out: &mut Txt) -> Result<(), Memory>
-    ensures { OnOk result ((history : History) → BookStandsFor policy.now.book.now history → out.new
+    ensures { OnOk result ((history : History) → BookRepresents policy.now.book.now history → out.new
         ≡ out.old ++ table_shown policy.now.format policy.now.scope.now (take policy.now.n history)
         group.now.purpose.now group.now.recipient.now group.now.schema.now) }
 {
@@ -147,7 +147,7 @@ fn append_table_at(
     place: usize,
     out: &mut Txt,
 ) -> Result<(), Memory>
-    ensures { OnOk result ((history : History) → BookStandsFor policy.now.book.now history → out.new
+    ensures { OnOk result ((history : History) → BookRepresents policy.now.book.now history → out.new
         ≡ out.old ++ option_map_or (λ named. table_shown policy.now.format policy.now.scope.now
         (take policy.now.n history)
         purpose.now recipient.now named.1) (slice_get policy.now.catalog.now.names.tables place)
@@ -172,7 +172,7 @@ fn append_tables(
     recipient: &Name,
     out: &mut Txt,
 ) -> Result<(), Memory>
-    ensures { OnOk result ((history : History) → BookStandsFor policy.now.book.now history → out.new
+    ensures { OnOk result ((history : History) → BookRepresents policy.now.book.now history → out.new
         ≡ out.old ++ tables_shown policy.now.catalog.now.names policy.now.format
         policy.now.scope.now
         (take policy.now.n history) purpose.now recipient.now) }
@@ -184,7 +184,7 @@ fn append_tables(
 }
 
 fn append_recipients(policy: &Policy<'_>, purpose: &Name, out: &mut Txt) -> Result<(), Memory>
-    ensures { OnOk result ((history : History) → BookStandsFor policy.now.book.now history → out.new
+    ensures { OnOk result ((history : History) → BookRepresents policy.now.book.now history → out.new
         ≡ out.old ++ recipients_shown policy.now.catalog.now.names policy.now.format
         policy.now.scope.now (take policy.now.n history) purpose.now) }
 {
@@ -195,7 +195,7 @@ fn append_recipients(policy: &Policy<'_>, purpose: &Name, out: &mut Txt) -> Resu
 }
 
 fn append_purposes(policy: &Policy<'_>, out: &mut Txt) -> Result<(), Memory>
-    ensures { OnOk result ((history : History) → BookStandsFor policy.now.book.now history → out.new
+    ensures { OnOk result ((history : History) → BookRepresents policy.now.book.now history → out.new
         ≡ out.old ++ rules_by_names policy.now.catalog.now.names policy.now.format
         policy.now.scope.now
         (take policy.now.n history)) }
@@ -214,7 +214,7 @@ pub(crate) fn append_rules(
     page: &Page,
     out: &mut Txt,
 ) -> Result<(), Memory>
-    ensures { OnOk result ((history : History) → BookStandsFor book.now history → out.new
+    ensures { OnOk result ((history : History) → BookRepresents book.now history → out.new
         ≡ out.old ++ rules_by_names catalog.now.names page.now.format page.now.scope
         (take page.now.last history)) }
 {

@@ -5,7 +5,7 @@ ghost use Rattle.hippo_io.specs.Faults.{HasRisen};
 ghost use Rattle.hippo_io.specs.Told.{Appends, AppendsFront};
 ghost use Rattle.hippo_keeper.specs.Keeping.{IsReady, IsAfterCall};
 ghost use Rattle.hippo_keeper.specs.Selecting.{stored_versions};
-ghost use Rattle.hippo_policy.specs.Books.{BookStandsFor};
+ghost use Rattle.hippo_policy.specs.Books.{BookRepresents};
 ghost use Rattle.hippo_program_args.specs.Starting.{IsIdle, SaysDamaged, BeginsDamaged};
 ghost use Rattle.hippo_history_top.specs.Ruling.{rules_by_names};
 ghost use Rattle.hippo_history_top.specs.Progress.{IsReadable, WritesPage, ShowsLoaded};
@@ -32,7 +32,7 @@ use std::sync::ledger::Ledger;
 
 // Writes the rules that are in force.
 fn write_rules<K: Sink>(alloc: Global, page: &Page, state: &State, sink: &mut K) -> Option<Ending>
-    ensures writes { WritesPage (BookStandsFor state.now.book)
+    ensures writes { WritesPage (BookRepresents state.now.book)
         (λ history. rules_by_names state.now.catalog.names page.now.format page.now.scope
         (take page.now.last history)) result
         (K.written sink.old) (K.written sink.new) (K.faults sink.old) (K.faults sink.new) }

@@ -9,7 +9,7 @@ use Rattle.hippo_model.specs.Histories.{schema_at}
 use Rattle.hippo_model.specs.Validity.{is_valid}
 use Rattle.hippo_keeper.specs.Keeping.{KeeperState}
 use Rattle.hippo_backlog.specs.declared.faults.ReadFault.{ReadFault}
-use Rattle.hippo_backlog.specs.Backlogs.{is_version_of, versions_of, HeldVersions, BringsUp}
+use Rattle.hippo_backlog.specs.Backlogs.{is_version_of, versions_of, HeldVersions, AdvancesTo}
 use Rattle.hippo_backlog.proofs.SnapshotLemmas.{AreAt-first, AreAt-grown, rows_at, handed_is}
 use Rattle.hippo_intervals.specs.Living.{HeldLives, no_lives, taken_by, LivesFit, LivesAreThoseOf, Advances}
 
@@ -39,7 +39,7 @@ taken_and_unread meaning lives history valid fits =
     let both = ap length whole in
     omega (arith, taken, both, length-append front rest)
 
-pub Advances-brings : {A : Type 0} (schema : Schema) (number end : ℕ) (result : Result A ReadFault) (old new : HeldVersions) (before after : KeeperState) (steps_old steps_new : ℕ) → old.place ≤ number → BringsUp schema number end result old new before after steps_old steps_new → Advances number end result (record { schema = schema; versions = old }) (record { schema = schema; versions = new }) before after steps_old steps_new
+pub Advances-brings : {A : Type 0} (schema : Schema) (number end : ℕ) (result : Result A ReadFault) (old new : HeldVersions) (before after : KeeperState) (steps_old steps_new : ℕ) → old.place ≤ number → AdvancesTo schema number end result old new before after steps_old steps_new → Advances number end result (record { schema = schema; versions = old }) (record { schema = schema; versions = new }) before after steps_old steps_new
 Advances-brings schema number end result old new before after steps_old steps_new within brings =
     let steps = brings.reads.hands.steps in
     let counted = brings.reads.taken.counted in
@@ -61,7 +61,7 @@ Advances-brings schema number end result old new before after steps_old steps_ne
     }
 
 -- the same, by the parts
-pub advances_by : {A : Type 0} (inside old : HeldLives) → inside ≡ old → (number end : ℕ) (result : Result A ReadFault) (new : HeldVersions) (before after : KeeperState) (steps_old steps_new : ℕ) → old.versions.place ≤ number → BringsUp inside.schema number end result inside.versions new before after steps_old steps_new → Advances number end result old (record { schema = inside.schema; versions = new }) before after steps_old steps_new
+pub advances_by : {A : Type 0} (inside old : HeldLives) → inside ≡ old → (number end : ℕ) (result : Result A ReadFault) (new : HeldVersions) (before after : KeeperState) (steps_old steps_new : ℕ) → old.versions.place ≤ number → AdvancesTo inside.schema number end result inside.versions new before after steps_old steps_new → Advances number end result old (record { schema = inside.schema; versions = new }) before after steps_old steps_new
 advances_by inside old same number end result new before after steps_old steps_new within brings =
     subst (λ (held : HeldLives). Advances number end result held (record { schema = inside.schema; versions = new }) before after steps_old steps_new) same
     (Advances-brings inside.schema number end result inside.versions new before after steps_old steps_new (subst (λ (held : HeldLives). held.versions.place ≤ number) (sym same) within) brings)

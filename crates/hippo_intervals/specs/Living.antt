@@ -35,8 +35,8 @@ pub record LivesAreThoseOf (lives : HeldLives) (history : History) : Type 0 wher
   pub taken_is : taken_by lives
       ≡ length (versions_of lives.schema.name (take lives.versions.ahead.reached history))
 
--- the rows move forward to a number, or on an error to a place before it; each version is read once
--- and counts as a step
+-- the rows move forward to a number, or on an error at most to it; each version is read once and
+-- counts as a step
 pub record Advances {A : Type 0} (number end : ℕ) (result : Result A ReadFault)
     (old new : HeldLives)
     (before after : KeeperState) (steps_old steps_new : ℕ) : Type 0 where

@@ -3,4 +3,4 @@
 
 mod lives;
 
-pub use lives::Lives;
+pub use lives::LiveRows;

@@ -19,12 +19,12 @@ use std::sync::ledger::Ledger;
 /// ends a row and begins none. The place only moves forward. Versions that were read beyond the
 /// place wait, so each version is read once.
 #[derive(Drop)]
-pub struct Lives {
+pub struct LiveRows {
     schema: Schema,
     versions: Versions,
 }
 
-impl Model for Lives {
+impl Model for LiveRows {
     ghost use Rattle.std.specs.Prelude.{◌≡◌};
     ghost use Rattle.hippo_intervals.specs.Living.{HeldLives};
 
@@ -38,14 +38,14 @@ impl Model for Lives {
     ghost invariant = { λ lives. lives.versions.rows.key ≡ lives.schema.key };
 }
 
-impl Lives {
+impl LiveRows {
     /// The rows of a table before the first entry: none.
-    pub fn new(alloc: Global, schema: &Schema) -> Result<Lives, Memory>
+    pub fn new(alloc: Global, schema: &Schema) -> Result<LiveRows, Memory>
         ensures { IfOk result (λ lives. lives ≡ no_lives schema.now) }
     {
         let schema = schema.copy(alloc)?;
         let key = schema.key.copy(alloc)?;
-        Ok(Lives {
+        Ok(LiveRows {
             schema,
             versions: Versions::new(alloc, key),
         })
@@ -111,6 +111,6 @@ impl Lives {
     {
         let schema = &self.schema;
         self.versions
-            .bring_up(keeper, alloc, schema, number, end, steps)
+            .advance_to(keeper, alloc, schema, number, end, steps)
     }
 }

@@ -10,7 +10,7 @@ use Rattle.hippo_eval.specs.declared.walks.Onward.{Onward}
 use Rattle.hippo_join_lookups.specs.Known.{is_open}
 use Rattle.hippo_join_lookups.specs.Places.{are_there, rows_at}
 use Rattle.hippo_join_stages.specs.declared.stages.Stage.{Stage}
-use Rattle.hippo_join_stages.specs.Stages.{AllCount, ReachesFrom}
+use Rattle.hippo_join_stages.specs.Stages.{AllQualify, ReachesFrom}
 use Rattle.hippo_join_stages.specs.Visiting.{Completes, Visits}
 use Rattle.hippo_join_stages.specs.Walking.{CanWalk}
 use Rattle.hippo_join.specs.declared.walking.Walk.{Walk}
@@ -51,14 +51,14 @@ pub record Follow
   pub reaches : ReachesFrom join.choices join.query join.sets slots stage.table places
   pub order : join.in_order ≡ true → IsStrictlyIncreasing places
   pub count : is_open slots stage.table ≡ true → all_count ≡ true
-      → AllCount join.choices join.query join.sets slots stage.table places
+      → AllQualify join.choices join.query join.sets slots stage.table places
 
 -- what a visitor keeps of a join's combinations, after those of its front
 abbrev pub Keeping : Type 0 → Type 1
 Keeping S = List KeyedRows → List Combination → List (List Place) → S → Type 0
 
 -- the qualifying combinations with the chosen rows were visited, and the same rows are chosen again
-pub record HasGoneOn {S : Type 0}
+pub record HasContinued {S : Type 0}
     (join : Join) (keeps : Keeping S) (chosen left : List (Option Place)) (now : Combination)
     (result : Result Onward Memory) (old new : S) : Type 0 where
   pub slots : OnOk result (left ≡ chosen)

@@ -8,7 +8,7 @@ ghost use Rattle.hippo_join_lookups.specs.Places.{Fits, stands};
 ghost use Rattle.hippo_join.specs.Existence.{HasOne, Decides};
 ghost use Rattle.hippo_join.specs.Settling.{Settles};
 ghost use Rattle.hippo_join_stages.specs.Stages.{Reaches};
-ghost use Rattle.hippo_join_stages.specs.Walking.{following_places};
+ghost use Rattle.hippo_join_stages.specs.Walking.{candidate_places};
 
 use crate::existence::Seeker;
 use hippo_join_lookups::is_open;
@@ -28,8 +28,8 @@ fn few_of(rows: usize) -> usize {
 
 // The only place; 0 if there is no place. None if there are several.
 fn only_of(following: &Following<'_>) -> Option<usize>
-    ensures { IfSome result (λ first. (length (following_places following.now) ≤ 1)
-        × (first ≡ get_or (following_places following.now) 0 0)) }
+    ensures { IfSome result (λ first. (length (candidate_places following.now) ≤ 1)
+        × (first ≡ get_or (candidate_places following.now) 0 0)) }
 {
     match following.len() {
         0 => Some(0),

@@ -7,10 +7,10 @@ ghost use Rattle.hippo_model.specs.Terms.{Combination, Place};
 ghost use Rattle.hippo_eval.specs.declared.walks.Onward.TheVariants.{More as MoreOn};
 ghost use Rattle.hippo_join_lookups.specs.Known.{is_open};
 ghost use Rattle.hippo_join_lookups.specs.Places.{are_there, rows_at, stands, stays};
-ghost use Rattle.hippo_join_stages.specs.Stages.{AllCount, Counts, ReachesFrom, suffices};
-ghost use Rattle.hippo_join_stages.specs.Walking.{following_places, IsWalkable};
+ghost use Rattle.hippo_join_stages.specs.Stages.{AllQualify, Counts, ReachesFrom, suffices};
+ghost use Rattle.hippo_join_stages.specs.Walking.{candidate_places, IsWalkable};
 ghost use Rattle.hippo_join_stages.specs.Visiting.{Visited};
-ghost use Rattle.hippo_join.specs.Walked.{join_of, CanGoOn, Follow, HasGoneOn, HasWalked};
+ghost use Rattle.hippo_join.specs.Walked.{join_of, CanGoOn, Follow, HasContinued, HasWalked};
 
 use hippo_eval::{Onward, passes};
 use hippo_join_lookups::is_open;
@@ -56,9 +56,9 @@ pub(crate) trait PlaceVisitor {
 fn ascending(alloc: Global, following: &Following<'_>) -> Result<Vec<usize>, Memory>
     ensures order { IfOk result (λ places. IsStrictlyIncreasing places.items) }
     ensures all { IfOk result (λ places. (place : Place)
-        → Contains (following_places following.now) place
+        → Contains (candidate_places following.now) place
         → Contains places.items place) }
-    ensures none_else { IfOk result (λ places. All (Contains (following_places following.now))
+    ensures none_else { IfOk result (λ places. All (Contains (candidate_places following.now))
         places.items) }
 {
     let mut places = listed(alloc, following)?;
@@ -116,7 +116,7 @@ impl<'w, 'a, C: ChoiceView, V: PlaceVisitor> Walk<'w, 'a, C, V> {
             self.now.side.now.query.now self.now.side.now.sets.now stage.now }
         requires rows { rows.now ≡ rows_at self.now.side.now.sets.now slots.now }
         ensures { IfOk result (λ following. Follow (join_of C.choices self.now) stage.now slots.now
-            (suffices stage.now slots.now) (following_places following)) }
+            (suffices stage.now slots.now) (candidate_places following)) }
     {
         let following = self.side.following(self.alloc, stage, slots, rows)?;
         if !self.in_order || following.rises() {
@@ -158,9 +158,9 @@ impl<'w, 'a, C: ChoiceView, V: PlaceVisitor> Walk<'w, 'a, C, V> {
     fn all_count(&self, stage: &Stage, following: &Following<'_>, slots: &[Option<usize>]) -> bool
         requires table { stage.now.table < length self.now.side.now.sets.now }
         requires follow { Follow (join_of C.choices self.now) stage.now slots.now
-            (suffices stage.now slots.now) (following_places following.now) }
+            (suffices stage.now slots.now) (candidate_places following.now) }
         ensures { Follow (join_of C.choices self.now) stage.now slots.now result
-            (following_places following.now) }
+            (candidate_places following.now) }
     {
         if stage.suffices(slots) {
             return true;
@@ -179,7 +179,7 @@ impl<'w, 'a, C: ChoiceView, V: PlaceVisitor> Walk<'w, 'a, C, V> {
         requires can { CanGoOn (join_of C.choices self.now) [] slots.now rows.now }
         requires counts { stays (C.choices self.now.side.now.choices.now)
             self.now.side.now.query.now rows.now ≡ true }
-        ensures { HasGoneOn (join_of C.choices self.now) (V.Keeps self.now.visitor.now) slots.now
+        ensures { HasContinued (join_of C.choices self.now) (V.Keeps self.now.visitor.now) slots.now
             slots.now rows.now result state.old state.new }
     {
         self.visitor.visit(self.alloc, state, slots, rows)
@@ -194,7 +194,7 @@ impl<'w, 'a, C: ChoiceView, V: PlaceVisitor> Walk<'w, 'a, C, V> {
         state: &mut V::State,
     ) -> Result<Onward, Memory>
         requires { CanGoOn (join_of C.choices self.now) [] slots.now rows.now }
-        ensures { HasGoneOn (join_of C.choices self.now) (V.Keeps self.now.visitor.now) slots.now
+        ensures { HasContinued (join_of C.choices self.now) (V.Keeps self.now.visitor.now) slots.now
             slots.now rows.now result state.old state.new }
     {
         if passes(self.side.query, rows, self.side.choices) {
@@ -217,7 +217,7 @@ impl<'w, 'a, C: ChoiceView, V: PlaceVisitor> Walk<'w, 'a, C, V> {
         requires can { CanGoOn (join_of C.choices self.now) [] slots.now rows.now }
         requires counts { counts ≡ true → stays (C.choices self.now.side.now.choices.now)
             self.now.side.now.query.now rows.now ≡ true }
-        ensures { HasGoneOn (join_of C.choices self.now) (V.Keeps self.now.visitor.now) slots.now
+        ensures { HasContinued (join_of C.choices self.now) (V.Keeps self.now.visitor.now) slots.now
             slots.now rows.now result state.old state.new }
     {
         if counts {
@@ -302,7 +302,7 @@ impl<'w, 'a, C: ChoiceView, V: PlaceVisitor> Walk<'w, 'a, C, V> {
         requires can { CanGoOn (join_of C.choices self.now) (stage.now ∷ rest.now) slots.old
             rows.old }
         requires follow { Follow (join_of C.choices self.now) stage.now slots.old count
-            (following_places following.now) }
+            (candidate_places following.now) }
         ensures { HasWalked (join_of C.choices self.now) (V.Keeps self.now.visitor.now)
             stage.now.table slots.old slots.old slots.new rows.new result state.old state.new }
     {
@@ -334,8 +334,8 @@ impl<'w, 'a, C: ChoiceView, V: PlaceVisitor> Walk<'w, 'a, C, V> {
         requires can { CanGoOn (join_of C.choices self.now) (stage.now ∷ rest.now) slots.old
             rows.old }
         requires follow { Follow (join_of C.choices self.now) stage.now slots.old
-            (suffices stage.now slots.old) (following_places following.now) }
-        ensures { HasGoneOn (join_of C.choices self.now) (V.Keeps self.now.visitor.now) slots.old
+            (suffices stage.now slots.old) (candidate_places following.now) }
+        ensures { HasContinued (join_of C.choices self.now) (V.Keeps self.now.visitor.now) slots.old
             slots.new rows.new result state.old state.new }
     {
         let count = self.all_count(stage, following, slots);
@@ -356,7 +356,7 @@ impl<'w, 'a, C: ChoiceView, V: PlaceVisitor> Walk<'w, 'a, C, V> {
         state: &mut V::State,
     ) -> Result<Onward, Memory>
         requires { CanGoOn (join_of C.choices self.now) stages.now slots.old rows.old }
-        ensures { HasGoneOn (join_of C.choices self.now) (V.Keeps self.now.visitor.now) slots.old
+        ensures { HasContinued (join_of C.choices self.now) (V.Keeps self.now.visitor.now) slots.old
             slots.new rows.new result state.old state.new }
     {
         let Some((stage, rest)) = stages.split_first() else {

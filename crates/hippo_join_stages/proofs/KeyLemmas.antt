@@ -29,7 +29,7 @@ use Rattle.hippo_join_stages.specs.declared.keys.Span.{Span}
 use Rattle.hippo_join_lookups.specs.Places.{blank, row_at_place, slot_at, chosen_rows, Fits, stands}
 use Rattle.hippo_join_lookups.specs.Lookups.{value_at_place}
 use Rattle.hippo_join_lookups.specs.Ties.{shown_column, holds}
-use Rattle.hippo_join_stages.specs.Keys.{IsShownAs, IsToldBy, IsKeyTold, IsWithin}
+use Rattle.hippo_join_stages.specs.Keys.{IsShownAs, IsFixedBy, IsKeyTold, IsWithin}
 use Rattle.hippo_join_lookups.proofs.PartLemmas.{equal-values, column-value, tie-of-part}
 use Rattle.hippo_join_lookups.proofs.PruneLemmas.{below-rows, in-range, all-hold, long-enough}
 use Rattle.hippo_join_lookups.proofs.SlotLemmas.{Fits-at, Fits-open, raw-at}
@@ -82,14 +82,14 @@ module _ (choices : Choices) (sets : List KeyedRows) (slots : List (Option Place
       (sym (ap is_true (truth-Compare (masked_value choices rows) Eq left right)) ∙ (and_parts (holds choices rows (conditions.Compare Eq left right)) true all).0)
 
   -- an equality of a column with a known value
-  pub told-left : (left right : Expr) (column : Ref) (value : Value) → shown_column left ≡ Some column → IsShownAs choices sets slots right value → IsToldBy choices sets slots (conditions.Compare Eq left right ∷ []) column value
+  pub told-left : (left right : Expr) (column : Ref) (value : Value) → shown_column left ≡ Some column → IsShownAs choices sets slots right value → IsFixedBy choices sets slots (conditions.Compare Eq left right ∷ []) column value
   told-left left right column value is shown places fits all =
       let rows = chosen_rows sets places in
       let equal = equal_parts left right places all in
       let known = shown places fits equal.1 in
       (sym (column-value choices rows left column is (ap is_null equal.0 ∙ equal.1)) ∙ equal.0 ∙ known, sym (ap is_null known) ∙ equal.1)
 
-  pub told-right : (left right : Expr) (column : Ref) (value : Value) → shown_column right ≡ Some column → IsShownAs choices sets slots left value → IsToldBy choices sets slots (conditions.Compare Eq left right ∷ []) column value
+  pub told-right : (left right : Expr) (column : Ref) (value : Value) → shown_column right ≡ Some column → IsShownAs choices sets slots left value → IsFixedBy choices sets slots (conditions.Compare Eq left right ∷ []) column value
   told-right left right column value is shown places fits all =
       let rows = chosen_rows sets places in
       let equal = equal_parts left right places all in

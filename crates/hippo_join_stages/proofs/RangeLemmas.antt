@@ -33,8 +33,8 @@ use Rattle.hippo_join_stages.specs.declared.keys.Span.{Span}
 use Rattle.hippo_join_lookups.specs.Places.{chosen_rows, Fits, stands}
 use Rattle.hippo_join_lookups.specs.Lookups.{value_at_place}
 use Rattle.hippo_join_lookups.specs.Ties.{shown_column, holds}
-use Rattle.hippo_join_stages.specs.Keys.{IsShownAs, IsToldBy, IsKeyTold, IsWithin}
-use Rattle.hippo_join_stages.specs.Ranges.{bounding, flipped_operator, IsBoundedBy, KeepsBound, HasFront, IsEdge, TellsBound}
+use Rattle.hippo_join_stages.specs.Keys.{IsShownAs, IsFixedBy, IsKeyTold, IsWithin}
+use Rattle.hippo_join_stages.specs.Ranges.{bounding, flipped_operator, IsBoundedBy, KeepsBound, HasFront, IsEdge, GivesBound}
 use Rattle.hippo_join_stages.proofs.KeyLemmas.{key-at}
 use Rattle.hippo_join_lookups.proofs.PartLemmas.{column-value}
 use Rattle.hippo_join_lookups.proofs.PruneLemmas.{below-rows, in-range, all-hold}
@@ -147,7 +147,7 @@ module _ (choices : Choices) (sets : List KeyedRows) (slots : List (Option Place
       (ap (λ (v : Value). is_allowed op (value_cmp v value)) (sym own) ∙ ap (λ (v : Value). is_allowed op (value_cmp (of left) v)) (sym other) ∙ said.0, ap is_null (sym own) ∙ said.1.0)
 
   -- an equality bounds a column from both sides
-  pub told-bounds : (parts : List (CondOf Expr)) (column : Ref) (value : Value) (above : Bool) → IsToldBy choices sets slots parts column value → IsBoundedBy choices sets slots parts column (bounding above false) value
+  pub told-bounds : (parts : List (CondOf Expr)) (column : Ref) (value : Value) (above : Bool) → IsFixedBy choices sets slots parts column value → IsBoundedBy choices sets slots parts column (bounding above false) value
   told-bounds parts column value above told places fits all =
       let own : raw_value (chosen_rows sets places) column ≡ value = (told places fits all).0 in
       (ap (λ (v : Value). is_allowed (bounding above false) (value_cmp v value)) own ∙ ap (is_allowed (bounding above false)) (tied_itself value_total value) ∙ allows_equal above, ap is_null own ∙ (told places fits all).1)
@@ -176,6 +176,6 @@ module _ (choices : Choices) (sets : List KeyedRows) (slots : List (Option Place
 
 -- a bound given by some parts is given by the list that contains them
 pub tells-from : (choices : Choices) (sets : List KeyedRows) (slots : List (Option Place)) (part form : CondOf Expr) (parts : List (CondOf Expr)) (column : Ref) (above : Bool) (told : Option Bound) → part ≡ form → ((rows : Combination) → list_all (holds choices rows) (form ∷ []) ≡ true → list_all (holds choices rows) parts ≡ true)
-    → TellsBound choices sets slots parts column above told → TellsBound choices sets slots (part ∷ []) column above told
+    → GivesBound choices sets slots parts column above told → GivesBound choices sets slots (part ∷ []) column above told
 tells-from choices sets slots part form parts column above told is say tells = IfSome_then told tells (λ bound bounded places fits all.
     bounded places fits (say (chosen_rows sets places) (subst (λ (one : CondOf Expr). list_all (holds choices (chosen_rows sets places)) (one ∷ []) ≡ true) is all)))

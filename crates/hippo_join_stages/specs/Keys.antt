@@ -23,9 +23,9 @@ IsShownAs choices sets slots expr value =
     → masked_value choices (chosen_rows sets places) expr ≡ value
 
 -- given the chosen rows, a column has this value, which is not null, whenever some parts hold
-abbrev pub IsToldBy : Choices → List KeyedRows → List (Option Place) → List (CondOf Expr) → Ref
+abbrev pub IsFixedBy : Choices → List KeyedRows → List (Option Place) → List (CondOf Expr) → Ref
     → Value → Type 0
-IsToldBy choices sets slots parts column value =
+IsFixedBy choices sets slots parts column value =
     (places : List Place) → Fits slots places
     → list_all (holds choices (chosen_rows sets places)) parts ≡ true
     → (raw_value (chosen_rows sets places) column ≡ value) × (is_null value ≡ false)

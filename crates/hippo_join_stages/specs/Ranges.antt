@@ -39,9 +39,9 @@ IsBoundedBy choices sets slots parts column op value =
 
 -- given the chosen rows, a column is within the lower or upper bound, if there is one, whenever
 -- some parts hold
-abbrev pub TellsBound :
+abbrev pub GivesBound :
     Choices → List KeyedRows → List (Option Place) → List (CondOf Expr) → Ref → Bool → Option Bound
     → Type 0
-TellsBound choices sets slots parts column above told =
+GivesBound choices sets slots parts column above told =
     IfSome told (λ bound. IsBoundedBy choices sets slots parts column
     (bounding above bound.strict) bound.value.now)

@@ -71,22 +71,23 @@ Counts choices query sets slots table place =
     (set : KeyedRows) → slice_get sets table ≡ Some set → place < length set.rows
     → stays choices query (rows_at sets (slice_set slots table (Some place))) ≡ true
 
-abbrev pub AllCount :
+abbrev pub AllQualify :
     Choices → Masked → List KeyedRows → List (Option Place) → Place → List Place → Type 0
-AllCount choices query sets slots table some =
+AllQualify choices query sets slots table some =
     (place : Place) → Contains some place → Counts choices query sets slots table place
 
 -- the rows at some places of a table qualify, whichever rows of other tables are chosen
-abbrev pub AlwaysCount : Choices → Masked → List KeyedRows → Place → List Place → Type 0
-AlwaysCount choices query sets table some =
+abbrev pub AlwaysQualify : Choices → Masked → List KeyedRows → Place → List Place → Type 0
+AlwaysQualify choices query sets table some =
     (slots : List (Option Place)) → is_open slots table ≡ true
-    → AllCount choices query sets slots table some
+    → AllQualify choices query sets slots table some
 
 -- whether the tie of a stage suffices and its other row is chosen; a lookup stage uses no tie
 abbrev pub suffices : Stage → List (Option Place) → Bool
 suffices stage slots =
     stage.suffices
-    && option_map_or (λ tie. not stage.is_searched && is_chosen slots tie.other.table) stage.tie true
+    && option_map_or (λ tie. not stage.is_searched && is_chosen slots tie.other.table) stage.tie
+    true
 
 -- a materialised stage contains all places of its table that can qualify, sorted by its tie's
 -- column if it has a tie, with that column's values; `suffices` means that the tie suffices

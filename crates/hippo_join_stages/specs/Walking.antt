@@ -13,10 +13,10 @@ use Rattle.hippo_join_stages.specs.Stages.{IsStage, Suffices}
 use Rattle.hippo_join_stages.specs.Finding.{Covers}
 
 -- the places as a list
-abbrev pub following_places : Following → List Place
-following_places (Listed places) = places.now
-following_places (Searched span) = range_with_len span.start (span.end - span.start)
-following_places (Found places) = places.items
+abbrev pub candidate_places : Following → List Place
+candidate_places (Listed places) = places.now
+candidate_places (Searched span) = range_with_len span.start (span.end - span.start)
+candidate_places (Found places) = places.items
 
 -- a stage contains all places of its table that can qualify, unless it looks them up; `suffices`
 -- means that the tie suffices

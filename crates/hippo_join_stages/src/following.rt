@@ -4,8 +4,8 @@ ghost use Rattle.std.specs.List.{range_with_len};
 ghost use Rattle.std.specs.List.Sorted.{IsStrictlyIncreasing};
 ghost use Rattle.hippo_join_lookups.specs.Places.{rows_at};
 ghost use Rattle.hippo_join_lookups.specs.Known.{is_open};
-ghost use Rattle.hippo_join_stages.specs.Stages.{AllCount, ReachesFrom, suffices};
-ghost use Rattle.hippo_join_stages.specs.Walking.{following_places, IsWalkable};
+ghost use Rattle.hippo_join_stages.specs.Stages.{AllQualify, ReachesFrom, suffices};
+ghost use Rattle.hippo_join_stages.specs.Walking.{candidate_places, IsWalkable};
 
 use crate::keys::Span;
 use crate::seeking::WALKED;
@@ -56,7 +56,7 @@ pub fn ascends(places: &[usize]) -> bool
 impl<'s> Following<'s> {
     /// Whether the places strictly ascend.
     pub fn rises(&self) -> bool
-        ensures { result ≡ true → IsStrictlyIncreasing (following_places self.now) }
+        ensures { result ≡ true → IsStrictlyIncreasing (candidate_places self.now) }
     {
         match self {
             Following::Listed(places) => ascends(places),
@@ -67,7 +67,7 @@ impl<'s> Following<'s> {
 
     /// The number of places.
     pub fn len(&self) -> usize
-        ensures { result ≡ length (following_places self.now) }
+        ensures { result ≡ length (candidate_places self.now) }
     {
         match self {
             Following::Listed(places) => places.len(),
@@ -78,8 +78,8 @@ impl<'s> Following<'s> {
 
     /// The place at an index, counted from 0.
     pub fn place(&self, index: usize) -> usize
-        requires { index < length (following_places self.now) }
-        ensures { result ≡ get_or (following_places self.now) index 0 }
+        requires { index < length (candidate_places self.now) }
+        ensures { result ≡ get_or (candidate_places self.now) index 0 }
     {
         match self {
             Following::Listed(places) => place_at(places, index),
@@ -103,7 +103,7 @@ fn listed_span(alloc: Global, span: Span) -> Result<Vec<usize>, Memory>
 
 /// The places as a list.
 pub fn listed(alloc: Global, following: &Following<'_>) -> Result<Vec<usize>, Memory>
-    ensures { IfOk result (λ places. places.items ≡ following_places following.now) }
+    ensures { IfOk result (λ places. places.items ≡ candidate_places following.now) }
 {
     match following {
         Following::Listed(places) => Ok(Vec::from_slice(alloc, places)?),
@@ -130,11 +130,11 @@ impl<'a, C: ChoiceView> Side<'a, C> {
         requires rows { rows.now ≡ rows_at self.now.sets.now slots.now }
         ensures reaches { IfOk result (λ following. ReachesFrom
             (C.choices self.now.choices.now) self.now.query.now self.now.sets.now
-            slots.now stage.now.table (following_places following)) }
+            slots.now stage.now.table (candidate_places following)) }
         ensures count { IfOk result (λ following. is_open slots.now stage.now.table ≡ true
             → suffices stage.now slots.now ≡ true
-            → AllCount (C.choices self.now.choices.now) self.now.query.now self.now.sets.now
-            slots.now stage.now.table (following_places following)) }
+            → AllQualify (C.choices self.now.choices.now) self.now.query.now self.now.sets.now
+            slots.now stage.now.table (candidate_places following)) }
     {
         if stage.is_searched {
             // The only table of a query is scanned once; any other table is scanned repeatedly.

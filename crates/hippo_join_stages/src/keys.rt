@@ -7,7 +7,7 @@ ghost use Rattle.hippo_model.specs.Masking.{raw_value};
 ghost use Rattle.hippo_model.specs.Rows.{key_of};
 ghost use Rattle.hippo_model.specs.Terms.{Place};
 ghost use Rattle.hippo_join_lookups.specs.Places.{chosen_rows, row_at_place, Fits};
-ghost use Rattle.hippo_join_stages.specs.Keys.{IsShownAs, IsToldBy, IsKeyTold, IsWithin};
+ghost use Rattle.hippo_join_stages.specs.Keys.{IsShownAs, IsFixedBy, IsKeyTold, IsWithin};
 
 use crate::sides::Side;
 use hippo_join_lookups::{column_of, outer_parts, shows_column, slot_at, value_at};
@@ -89,7 +89,7 @@ impl<'a, C: ChoiceView> Side<'a, C> {
         right: &'a Expr,
         slots: &[Option<usize>],
     ) -> Option<&'a Value>
-        ensures { IfSome result (λ value. IsToldBy (C.choices self.now.choices.now)
+        ensures { IfSome result (λ value. IsFixedBy (C.choices self.now.choices.now)
             self.now.sets.now slots.now
             (Compare Eq left.now right.now ∷ []) column value.now) }
     {
@@ -108,7 +108,7 @@ impl<'a, C: ChoiceView> Side<'a, C> {
         part: &'a CondOf<Expr>,
         slots: &[Option<usize>],
     ) -> Option<&'a Value>
-        ensures { IfSome result (λ value. IsToldBy (C.choices self.now.choices.now)
+        ensures { IfSome result (λ value. IsFixedBy (C.choices self.now.choices.now)
             self.now.sets.now slots.now
             (part.now ∷ []) column value.now) }
     {
@@ -125,7 +125,7 @@ impl<'a, C: ChoiceView> Side<'a, C> {
     // The value of a column, if the condition fixes it by equality with a literal or with a column
     // of a chosen row.
     pub(crate) fn told_value(&self, column: Ref, slots: &[Option<usize>]) -> Option<&'a Value>
-        ensures { IfSome result (λ value. IsToldBy (C.choices self.now.choices.now)
+        ensures { IfSome result (λ value. IsFixedBy (C.choices self.now.choices.now)
             self.now.sets.now slots.now
             (outer_parts self.now.query.now.cond) column value.now) }
     {

@@ -8,7 +8,7 @@ ghost use Rattle.hippo_model.specs.declared.query.CondOf.TheVariants.{Compare};
 ghost use Rattle.hippo_model.specs.Conditions.{outer_parts, is_null};
 ghost use Rattle.hippo_tables_keyed.specs.RowSets.{KeyedRows};
 ghost use Rattle.hippo_join_stages.specs.Keys.{IsKeyTold, IsWithin};
-ghost use Rattle.hippo_join_stages.specs.Ranges.{bounding, flipped_operator, IsEdge, TellsBound};
+ghost use Rattle.hippo_join_stages.specs.Ranges.{bounding, flipped_operator, IsEdge, GivesBound};
 
 use crate::keys::Span;
 use crate::sides::Side;
@@ -127,7 +127,7 @@ impl<'a, C: ChoiceView> Side<'a, C> {
         above: bool,
         slots: &[Option<usize>],
     ) -> Option<Bound<'a>>
-        ensures { TellsBound (C.choices self.now.choices.now) self.now.sets.now slots.now
+        ensures { GivesBound (C.choices self.now.choices.now) self.now.sets.now slots.now
             (Compare op left.now right.now ∷ []) column above result }
     {
         if !shows_column(left, column) {
@@ -147,7 +147,7 @@ impl<'a, C: ChoiceView> Side<'a, C> {
         above: bool,
         slots: &[Option<usize>],
     ) -> Option<Bound<'a>>
-        ensures { TellsBound (C.choices self.now.choices.now) self.now.sets.now slots.now
+        ensures { GivesBound (C.choices self.now.choices.now) self.now.sets.now slots.now
             (part.now ∷ []) column above result }
     {
         match part {
@@ -171,7 +171,7 @@ impl<'a, C: ChoiceView> Side<'a, C> {
     // A lower or upper bound of a column, if the condition gives one by a literal or by a chosen
     // row.
     fn told_bound(&self, column: Ref, above: bool, slots: &[Option<usize>]) -> Option<Bound<'a>>
-        ensures { TellsBound (C.choices self.now.choices.now) self.now.sets.now slots.now
+        ensures { GivesBound (C.choices self.now.choices.now) self.now.sets.now slots.now
             (outer_parts self.now.query.now.cond) column above result }
     {
         for part in outer_parts(&self.query.cond) {
@@ -189,7 +189,7 @@ impl<'a, C: ChoiceView> Side<'a, C> {
         above: bool,
         slots: &[Option<usize>],
     ) -> Option<Bound<'a>>
-        ensures { TellsBound (C.choices self.now.choices.now) self.now.sets.now slots.now
+        ensures { GivesBound (C.choices self.now.choices.now) self.now.sets.now slots.now
             (outer_parts self.now.query.now.cond) column above result }
     {
         match self.told_value(column, slots) {
@@ -210,7 +210,7 @@ impl<'a, C: ChoiceView> Side<'a, C> {
         null: &'b Value,
     ) -> Option<Bound<'b>>
         requires { null.now ≡ Null }
-        ensures { TellsBound (C.choices self.now.choices.now) self.now.sets.now slots.now
+        ensures { GivesBound (C.choices self.now.choices.now) self.now.sets.now slots.now
             (outer_parts self.now.query.now.cond) column false result }
     {
         match self.told_end(column, false, slots) {

@@ -2,9 +2,9 @@
 ghost use Rattle.std.specs.Prelude.{◌≡◌, ◌<◌, true, false, None, Some, [], ◌∷◌, ◌++◌, if◌then◌else◌, OnOk, IfOk, length, replicate};
 ghost use Rattle.std.specs.List.{All};
 ghost use Rattle.hippo_join_lookups.specs.Places.{chosen_rows as chosen, rows_at};
-ghost use Rattle.hippo_join_stages.specs.Walking.{following_places, IsWalkable, AreWalkable};
+ghost use Rattle.hippo_join_stages.specs.Walking.{candidate_places, IsWalkable, AreWalkable};
 ghost use Rattle.hippo_join_lookups.specs.Known.{is_open};
-ghost use Rattle.hippo_join_stages.specs.Stages.{AllCount, HaveValue, Reaches, ReachesFrom, ReachesWith, IsStage, AreStages, suffices};
+ghost use Rattle.hippo_join_stages.specs.Stages.{AllQualify, HaveValue, Reaches, ReachesFrom, ReachesWith, IsStage, AreStages, suffices};
 
 use crate::following::{Following, listed};
 use crate::sides::Side;
@@ -73,7 +73,7 @@ impl<'a, C: ChoiceView> Side<'a, C> {
         requires table { table < length self.now.sets.now }
         requires candidates { Reaches (C.choices self.now.choices.now) self.now.query.now
             self.now.sets.now
-            table (following_places candidates.now) }
+            table (candidate_places candidates.now) }
         ensures { IfOk result (λ places. Reaches (C.choices self.now.choices.now) self.now.query.now
             self.now.sets.now
             table places.items) }
@@ -324,7 +324,7 @@ impl<'a, C: ChoiceView> Side<'a, C> {
             slots.now stage.now.table result.now }
         ensures count { is_open slots.now stage.now.table ≡ true
             → suffices stage.now slots.now ≡ true
-            → AllCount (C.choices self.now.choices.now) self.now.query.now self.now.sets.now
+            → AllQualify (C.choices self.now.choices.now) self.now.query.now self.now.sets.now
             slots.now stage.now.table result.now }
     {
         if is_chosen(slots, tie.other.table) {
@@ -351,7 +351,7 @@ impl<'a, C: ChoiceView> Side<'a, C> {
             slots.now stage.now.table result.now }
         ensures count { is_open slots.now stage.now.table ≡ true
             → suffices stage.now slots.now ≡ true
-            → AllCount (C.choices self.now.choices.now) self.now.query.now self.now.sets.now
+            → AllQualify (C.choices self.now.choices.now) self.now.query.now self.now.sets.now
             slots.now stage.now.table result.now }
     {
         match &stage.tie {

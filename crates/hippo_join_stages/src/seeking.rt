@@ -3,7 +3,7 @@
 ghost use Rattle.std.specs.Prelude.{◌<◌, IfOk, IfSome, length, None};
 ghost use Rattle.hippo_join_stages.specs.Stages.{Reaches, ReachesFrom};
 ghost use Rattle.hippo_join_stages.specs.declared.following.Following.TheVariants.{Searched};
-ghost use Rattle.hippo_join_stages.specs.Walking.{following_places};
+ghost use Rattle.hippo_join_stages.specs.Walking.{candidate_places};
 
 use crate::following::Following;
 use crate::keys::Span;
@@ -226,10 +226,10 @@ impl<'a, C: ChoiceView> Side<'a, C> {
         requires table { table < length self.now.sets.now }
         requires span { ReachesFrom (C.choices self.now.choices.now) self.now.query.now
             self.now.sets.now
-            slots.now table (following_places (Searched span)) }
+            slots.now table (candidate_places (Searched span)) }
         ensures { IfOk result (λ following. ReachesFrom
             (C.choices self.now.choices.now) self.now.query.now self.now.sets.now
-            slots.now table (following_places following)) }
+            slots.now table (candidate_places following)) }
     {
         match self.found_places(alloc, table, slots, most)? {
             Some(places) => Ok(Following::Found(places)),
@@ -250,7 +250,7 @@ impl<'a, C: ChoiceView> Side<'a, C> {
         requires walked { 0 < walked }
         ensures { IfOk result (λ following. ReachesFrom
             (C.choices self.now.choices.now) self.now.query.now self.now.sets.now
-            slots.now table (following_places following)) }
+            slots.now table (candidate_places following)) }
     {
         let span = self.span(alloc, table, slots)?;
         if is_long(span.len(), walked) {
@@ -269,7 +269,7 @@ impl<'a, C: ChoiceView> Side<'a, C> {
         requires { table < length self.now.sets.now }
         ensures { IfOk result (λ following. Reaches
             (C.choices self.now.choices.now) self.now.query.now self.now.sets.now table
-            (following_places following)) }
+            (candidate_places following)) }
     {
         let slots = open_slots(alloc, self.sets.len())?;
         self.candidates(alloc, table, &slots, WALKED)

@@ -10,8 +10,8 @@ ghost use Rattle.hippo_model.specs.declared.query.Expr.TheVariants.{Keep};
 ghost use Rattle.hippo_join_lookups.specs.Known.{is_chosen};
 ghost use Rattle.hippo_join_lookups.specs.Ties.{AreEqual, holds};
 ghost use Rattle.hippo_join_stages.specs.Guards.{can_fail};
-ghost use Rattle.hippo_join_stages.specs.Stages.{AlwaysCount, AreTied, HaveValue, HoldsWithEach, Suffices, suffices};
-ghost use Rattle.hippo_join_stages.specs.Walking.{following_places};
+ghost use Rattle.hippo_join_stages.specs.Stages.{AlwaysQualify, AreTied, HaveValue, HoldsWithEach, Suffices, suffices};
+ghost use Rattle.hippo_join_stages.specs.Walking.{candidate_places};
 ghost use Rattle.hippo_join_stages.specs.declared.following.Following.TheVariants.{Searched};
 
 use crate::following::Following;
@@ -136,7 +136,7 @@ impl<'a, C: ChoiceView> Side<'a, C> {
     fn all_have(&self, column: Ref, value: &Value, span: Span) -> bool
         requires { column.table < length self.now.sets.now }
         ensures { result ≡ true → HaveValue self.now.sets.now column.table column.column value.now
-            (following_places (Searched span)) }
+            (candidate_places (Searched span)) }
     {
         let set = self.sets.get(column.table);
         match set.key().as_slice().first() {
@@ -159,7 +159,7 @@ impl<'a, C: ChoiceView> Side<'a, C> {
     ) -> bool
         requires { table < length self.now.sets.now }
         ensures { result ≡ true → HoldsWithEach (C.choices self.now.choices.now) self.now.sets.now
-            table (following_places (Searched span)) (Compare op left.now right.now) }
+            table (candidate_places (Searched span)) (Compare op left.now right.now) }
     {
         match (op, kept_column(left), right) {
             (CompareOp::Eq, Some(column), Expr::Literal(value)) if column.table == table => {
@@ -173,7 +173,7 @@ impl<'a, C: ChoiceView> Side<'a, C> {
     fn holds_with_each(&self, part: &CondOf<Expr>, table: usize, span: Span) -> bool
         requires { table < length self.now.sets.now }
         ensures { result ≡ true → HoldsWithEach (C.choices self.now.choices.now) self.now.sets.now
-            table (following_places (Searched span)) part.now }
+            table (candidate_places (Searched span)) part.now }
     {
         match part {
             CondOf::Compare { op, left, right } => self.equals_each(*op, left, right, table, span),
@@ -186,8 +186,8 @@ impl<'a, C: ChoiceView> Side<'a, C> {
     /// no guard can fail.
     pub fn all_count(&self, table: usize, following: &Following<'_>) -> bool
         requires { table < length self.now.sets.now }
-        ensures { result ≡ true → AlwaysCount (C.choices self.now.choices.now) self.now.query.now
-            self.now.sets.now table (following_places following.now) }
+        ensures { result ≡ true → AlwaysQualify (C.choices self.now.choices.now) self.now.query.now
+            self.now.sets.now table (candidate_places following.now) }
     {
         match (following, outer_parts(&self.query.cond)) {
             (Following::Searched(span), [part]) => {

@@ -7,7 +7,7 @@ use Rattle.std.specs.List.Sorted.{IsPartitionPoint}
 use Rattle.std.specs.Prelude.{⊤}
 use Rattle.hippo_model.specs.declared.stored.StoredEntry.{StoredEntry}
 use Rattle.hippo_keeper.specs.Keeping.{Store, RisesAbove, last_number}
-use Rattle.hippo_keeper.specs.Selecting.{is_any, is_selected, handed_over, IsHandedOver}
+use Rattle.hippo_keeper.specs.Selecting.{is_any, is_selected, selected_entries, IsHandedOver}
 use Rattle.hippo_keeper.specs.Paging.{paged, AreFilled, picked, with_picked}
 use Rattle.hippo_keeper.specs.declared.selection.ReadQuery.{ReadQuery}
 use Rattle.hippo_keeper.proofs.RisingLemmas.{last_rises, RisesAbove-filter, RisesAbove-take, RisesAbove-above}
@@ -81,7 +81,7 @@ pages_from after number (page ∷ rest) (suc place) filled rises split =
     ∙ sym (filter-append (λ entry. nat_lt after entry.seq) page (paged rest) ∙ ap (λ front. front ++ filter (λ entry. nat_lt after entry.seq) (paged rest)) none)
 
 -- what is picked from the later pages, and then from the last entries
-pub picked_of_all : (read_query : ReadQuery) (above full last first list : Store) → first ≡ with_picked read_query [] above → list ≡ with_picked read_query first last → filter (λ entry. nat_lt read_query.after entry.seq) above ≡ filter (λ entry. nat_lt read_query.after entry.seq) full → list ≡ handed_over (is_selected read_query.selection) read_query.after read_query.max (full ++ last)
+pub picked_of_all : (read_query : ReadQuery) (above full last first list : Store) → first ≡ with_picked read_query [] above → list ≡ with_picked read_query first last → filter (λ entry. nat_lt read_query.after entry.seq) above ≡ filter (λ entry. nat_lt read_query.after entry.seq) full → list ≡ selected_entries (is_selected read_query.selection) read_query.after read_query.max (full ++ last)
 picked_of_all read_query above full last first list before remaining same =
     let all : read_query.max - 0 ≡ read_query.max = omega arith in
     remaining
@@ -92,7 +92,7 @@ picked_of_all read_query above full last first list before remaining same =
     ∙ ap (take read_query.max) (sym (picked-append read_query full last))
 
 -- what is picked this way is what a read returns
-pub IsHandedOver-of : (test : StoredEntry → Bool) (after max : ℕ) (kept list : Store) → list ≡ handed_over test after max kept → RisesAbove 0 kept → IsHandedOver ⊤ test after max kept list
+pub IsHandedOver-of : (test : StoredEntry → Bool) (after max : ℕ) (kept list : Store) → list ≡ selected_entries test after max kept → RisesAbove 0 kept → IsHandedOver ⊤ test after max kept list
 IsHandedOver-of test after max kept list is rises =
     let above = filter (λ entry. nat_lt after entry.seq) kept in
     record {
@@ -118,7 +118,7 @@ above_zero number (entry ∷ rest) rises =
     let passes : nat_lt 0 entry.seq ≡ true = grind (arith, nat_tests) in
     rw passes (ap (λ rest. entry ∷ rest) (above_zero entry.seq rest rises.1))
 
-pub all_handed_over : (max : ℕ) (kept list : Store) → list ≡ handed_over is_any 0 max kept → RisesAbove 0 kept → length list < max → list ≡ kept
+pub all_handed_over : (max : ℕ) (kept list : Store) → list ≡ selected_entries is_any 0 max kept → RisesAbove 0 kept → length list < max → list ≡ kept
 all_handed_over max kept list is rises short =
     let whole = any_pass (filter (λ entry. nat_lt 0 entry.seq) kept) ∙ above_zero 0 kept rises in
     let taken : list ≡ take max kept = is ∙ ap (take max) whole in

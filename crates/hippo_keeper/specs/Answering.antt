@@ -10,7 +10,7 @@ has_failed (Err Failed) = true
 has_failed (Err Memory) = false
 
 -- the answer is that the keeper is out of memory
-abbrev pub wants_memory : {A : Type 0} → Result A KeeperFault → Bool
-wants_memory (Ok value) = false
-wants_memory (Err Failed) = false
-wants_memory (Err Memory) = true
+abbrev pub is_out_of_memory : {A : Type 0} → Result A KeeperFault → Bool
+is_out_of_memory (Ok value) = false
+is_out_of_memory (Err Failed) = false
+is_out_of_memory (Err Memory) = true

@@ -3,7 +3,7 @@
 use Rattle.std.specs.Prelude.{◌≡◌, ℕ, ◌+◌, ◌<◌, ◌≤◌, ◌⊎◌, ⊤, Bool, true, false, List, [], ◌∷◌, ◌++◌, Result, IsTrue, OnOk, is_ok}
 use Rattle.hippo_io.specs.Faults.{HasRisen}
 use Rattle.hippo_model.specs.declared.stored.StoredEntry.{StoredEntry}
-use Rattle.hippo_keeper.specs.Answering.{has_failed, wants_memory}
+use Rattle.hippo_keeper.specs.Answering.{has_failed, is_out_of_memory}
 use Rattle.hippo_keeper.specs.declared.faults.KeeperFault.{KeeperFault}
 
 -- stored entries, in the order in which they were stored
@@ -119,7 +119,7 @@ pub record KeepsSame (before after : KeeperState) : Type 0 where
 -- what a start with a name does
 pub record Starts {A : Type 0} (name : List ℕ) (result : Result A KeeperFault)
     (before after : KeeperState) : Type 0 where
-  pub call : IsAfterCall (is_ok result) (wants_memory result) result before after
+  pub call : IsAfterCall (is_ok result) (is_out_of_memory result) result before after
   pub ok : OnOk result (after.tells → HasFound (before.finds name) after)
 
 -- what an append does
@@ -128,4 +128,4 @@ pub record AppendsEntry {A : Type 0} (entry : StoredEntry) (result : Result A Ke
   pub call : IsAfterCall true false result before after
   pub ok : OnOk result (after.tells → HasOneMore entry before after)
   pub failed : IsTrue (has_failed result) → after.tells → MayHaveOneMore entry before after
-  pub memory : IsTrue (wants_memory result) → after.tells → Stays before after
+  pub memory : IsTrue (is_out_of_memory result) → after.tells → Stays before after

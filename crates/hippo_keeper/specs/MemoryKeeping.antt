@@ -3,7 +3,7 @@ use Rattle.std.specs.Prelude.{◌≡◌, ℕ, ◌≤◌, Bool, true, not, ◌&&�
 use Rattle.std.specs.Option.{option_map_or}
 use Rattle.hippo_io.specs.Faults.{next_count}
 use Rattle.hippo_model.specs.declared.stored.StoredEntry.{StoredEntry}
-use Rattle.hippo_keeper.specs.Answering.{has_failed, wants_memory}
+use Rattle.hippo_keeper.specs.Answering.{has_failed, is_out_of_memory}
 use Rattle.hippo_keeper.specs.Keeping.{Store, Survivors, KeeperState}
 use Rattle.hippo_keeper.specs.Selecting.{IsHandedOver}
 use Rattle.hippo_keeper.specs.Standings.{new_standing, after_answer, after_start}
@@ -59,7 +59,8 @@ with_entry entry store = record store { kept = store.kept ++ entry ∷ [] }
 -- ran out of memory for it
 abbrev pub kept_after : {A : Type 0} → Result A KeeperFault → StoredEntry → MemoryStore → Store
 kept_after result entry store =
-    if option_map_or (λ keeps. keeps) (next_failure store.calls) true && not (wants_memory result)
+    if option_map_or (λ keeps. keeps) (next_failure store.calls) true
+    && not (is_out_of_memory result)
     then store.kept ++ entry ∷ [] else store.kept
 
 -- the keeper after an append with this answer

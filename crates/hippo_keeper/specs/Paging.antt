@@ -44,8 +44,10 @@ AreFilled (page ∷ rest) = (0 < length page) × AreFilled rest
 -- the entries that a read asks for
 abbrev pub picked : ReadQuery → Store → Store
 picked read_query entries =
-    filter (is_selected read_query.selection) (filter (λ entry. nat_lt read_query.after entry.seq) entries)
+    filter (is_selected read_query.selection)
+    (filter (λ entry. nat_lt read_query.after entry.seq) entries)
 
 -- a list, followed by what a read picks of some entries, up to the read's limit
 abbrev pub with_picked : ReadQuery → Store → Store → Store
-with_picked read_query list entries = list ++ take (read_query.max - length list) (picked read_query entries)
+with_picked read_query list entries =
+    list ++ take (read_query.max - length list) (picked read_query entries)

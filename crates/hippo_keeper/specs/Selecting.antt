@@ -23,8 +23,8 @@ abbrev pub is_any : StoredEntry → Bool
 is_any entry = true
 
 -- the first `max` stored entries with a number above `after` that pass a test
-abbrev pub handed_over : (StoredEntry → Bool) → ℕ → ℕ → Store → Store
-handed_over test after max kept =
+abbrev pub selected_entries : (StoredEntry → Bool) → ℕ → ℕ → Store → Store
+selected_entries test after max kept =
     take max (filter test (filter (λ entry. nat_lt after entry.seq) kept))
 
 -- how many of the entries are versions
@@ -48,7 +48,7 @@ pub record HandsOver {A : Type 0} (result : Result A KeeperFault) (handed : Stor
 -- known, and always at most `max` entries above `after`, ordered by number
 pub record IsHandedOver (tells : Type 0) (test : StoredEntry → Bool) (after max : ℕ)
     (kept list : Store) : Type 0 where
-  pub told : tells → list ≡ handed_over test after max kept
+  pub told : tells → list ≡ selected_entries test after max kept
   pub few : length list ≤ max
   pub order : RisesAbove after list
 

@@ -1,7 +1,7 @@
 -- What is known of the calls made on a keeper, and how an answer changes it.
 use Rattle.std.specs.Prelude.{false, ◌||◌, Result, is_ok, if◌then◌else◌}
 use Rattle.hippo_io.specs.Faults.{next_count}
-use Rattle.hippo_keeper.specs.Answering.{has_failed, wants_memory}
+use Rattle.hippo_keeper.specs.Answering.{has_failed, is_out_of_memory}
 use Rattle.hippo_keeper.specs.declared.faults.KeeperFault.{KeeperFault}
 use Rattle.hippo_keeper.specs.declared.standing.Standing.{Standing}
 
@@ -20,5 +20,5 @@ after_answer result standing = record standing {
 abbrev pub after_start : {A : Type 0} → Result A KeeperFault → Standing → Standing
 after_start result standing = record (after_answer result standing) {
   started = standing.started || is_ok result;
-  closed = standing.closed || wants_memory result;
+  closed = standing.closed || is_out_of_memory result;
 }

@@ -1,7 +1,7 @@
 //! A keeper in memory. Its contents are known to the proof, and it fails at the calls that its
 //! caller names.
 ghost use Rattle.std.specs.Prelude.{◌≡◌, ℕ, ◌+◌, ◌≤◌, true, false, List, [], Some, is_some, IfOk, OnOk, OnErr, ⊤};
-ghost use Rattle.hippo_keeper.specs.Answering.{has_failed, wants_memory};
+ghost use Rattle.hippo_keeper.specs.Answering.{has_failed, is_out_of_memory};
 ghost use Rattle.hippo_keeper.specs.Keeping.{Store, RisesAbove, next_number};
 ghost use Rattle.hippo_keeper.specs.MemoryKeeping.{new_store, next_failure, memory_after_call, memory_after_start, kept_after, memory_after_append, with_entry, ReadsInMemory, FindsInMemory, SurvivesInMemory, memory_keeper_state};
 ghost use Rattle.hippo_keeper.specs.Selecting.{was_asked_in, is_selected, versions_read, IsHandedOver};
@@ -127,7 +127,7 @@ impl MemoryKeeper {
         ensures call { self.new ≡ record (memory_after_call self.old) {
           kept = kept_after result entry self.old;
         } }
-        ensures fails { wants_memory result ≡ false
+        ensures fails { is_out_of_memory result ≡ false
             → has_failed result ≡ is_some (next_failure self.old.calls) }
         ensures keeps { next_failure self.old.calls ≡ Some false → has_failed result ≡ true }
     {
@@ -153,7 +153,7 @@ impl Keeper for MemoryKeeper {
         ensures fails { has_failed result ≡ is_some (next_failure self.old.calls) }
         ensures faults { self.old.calls.standing.faults ≤ self.new.calls.standing.faults }
         ensures order { OnOk result (RisesAbove 0 self.new.kept) }
-        ensures memory { wants_memory result ≡ false }
+        ensures memory { is_out_of_memory result ≡ false }
     {
         let answer = match self.calls.begin_call() {
             Some(_) => Err(KeeperFault::Failed),
@@ -165,7 +165,7 @@ impl Keeper for MemoryKeeper {
     fn append(&mut self, alloc: Global, entry: StoredEntry) -> Result<(), KeeperFault>
         requires next { entry.seq ≡ next_number self.old.kept }
         ensures store { self.new ≡ memory_after_append result entry self.old }
-        ensures fails { wants_memory result ≡ false
+        ensures fails { is_out_of_memory result ≡ false
             → has_failed result ≡ is_some (next_failure self.old.calls) }
         ensures faults { self.old.calls.standing.faults ≤ self.new.calls.standing.faults }
         ensures keeps { next_failure self.old.calls ≡ Some false → has_failed result ≡ true }

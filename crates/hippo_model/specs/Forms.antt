@@ -20,10 +20,10 @@ value_in (Shown value) = value
 value_in (Denied rule) = Null
 
 -- the different rows, each where it first occurs
-abbrev pub different_rows : List ShownRow → List ShownRow
-different_rows [] = []
-different_rows (first ∷ rest) =
-    first ∷ filter (λ row. not (same_row first row)) (different_rows rest)
+abbrev pub distinct_rows : List ShownRow → List ShownRow
+distinct_rows [] = []
+distinct_rows (first ∷ rest) =
+    first ∷ filter (λ row. not (same_row first row)) (distinct_rows rest)
 
 -- the lesser of two values; null is ignored unless both are null
 abbrev pub lesser : Value → Value → Value
@@ -64,10 +64,10 @@ group_cell key rows (Max place) = Shown (greatest_value (values_in place rows))
 abbrev pub grouped_rows : Shape → List ShownRow → List ShownRow
 grouped_rows shape rows =
     map (λ key. map (group_cell key (members rows key shape.keys)) shape.outs)
-    (different_rows (map (take shape.keys) rows))
+    (distinct_rows (map (take shape.keys) rows))
 
 -- applies a query's form to the rows of its answer
 abbrev pub rows_by_form : Form → List ShownRow → List ShownRow
 rows_by_form Plain rows = rows
-rows_by_form Distinct rows = different_rows rows
+rows_by_form Distinct rows = distinct_rows rows
 rows_by_form (Grouped shape) rows = grouped_rows shape rows

@@ -13,8 +13,8 @@ IsKeptByEach meaning holds =
 
 -- a property that holds for the empty history, and that each entry that may follow preserves, holds
 -- for each valid history
-abbrev pub WhatIsKeptHolds : Type 0
-WhatIsKeptHolds =
+abbrev pub InvariantHolds : Type 0
+InvariantHolds =
     (meaning : Meaning) (holds : History → Bool) → holds [] ≡ true → IsKeptByEach meaning holds
     → (history : History) → is_valid meaning history ≡ true → holds history ≡ true
 

@@ -9,25 +9,25 @@ use Rattle.hippo_model.specs.Stores.{IsStoreOf, IsDamagedAt}
 
 -- if the same bytes begin with the bodies of two entries that can be stored, the entries are the
 -- same, and so are the bytes after the bodies
-abbrev pub BodyTellsEntry : Type 0
-BodyTellsEntry =
+abbrev pub BodyDeterminesEntry : Type 0
+BodyDeterminesEntry =
     (a b : Entry) (rest other : List ℕ) → is_keepable a ≡ true → is_keepable b ≡ true
     → body a ++ rest ≡ body b ++ other
     → (a ≡ b) × (rest ≡ other)
 
 -- entries that can be stored and have the same stored form are the same
-abbrev pub StoredFormTellsEntry : Type 0
-StoredFormTellsEntry =
+abbrev pub StoredFormDeterminesEntry : Type 0
+StoredFormDeterminesEntry =
     (a b : Entry) → is_keepable a ≡ true → is_keepable b ≡ true → stored a ≡ stored b → a ≡ b
 
 -- stored entries are those of at most one valid history
-abbrev pub StoreTellsHistory : Type 0
-StoreTellsHistory =
+abbrev pub StoreDeterminesHistory : Type 0
+StoreDeterminesHistory =
     (meaning : Meaning) (store : List StoredEntry) (a b : History)
     → IsStoreOf meaning store a → IsStoreOf meaning store b → a ≡ b
 
 -- damaged stored entries are not those of any valid history, and they have one place of damage
-pub record DamageTellsPlace : Type 0 where
+pub record DamageDeterminesPlace : Type 0 where
   pub of_none : (meaning : Meaning) (store : List StoredEntry) (place : ℕ)
       → IsDamagedAt meaning store place
       → (history : History) → ¬ (IsStoreOf meaning store history)

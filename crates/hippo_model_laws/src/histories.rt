@@ -1,11 +1,11 @@
 //! Laws on valid histories.
-ghost use Rattle.hippo_model_laws.specs.Histories.{WhatIsKeptHolds, ValidWithOneMore, FrontIsValid};
+ghost use Rattle.hippo_model_laws.specs.Histories.{InvariantHolds, ValidWithOneMore, FrontIsValid};
 ghost use Rattle.hippo_model_laws.specs.Histories.{EntryHasItsNumber, EntriesBefore};
 
 /// A property holds for each valid history if it holds for the empty history, and adding an entry
 /// that may follow preserves it.
 pub fn what_is_kept_holds()
-    ensures { WhatIsKeptHolds }
+    ensures { InvariantHolds }
 {}
 
 /// A history with one more entry is valid exactly when the history is valid and the entry may

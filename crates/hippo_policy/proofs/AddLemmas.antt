@@ -7,7 +7,7 @@ use Rattle.hippo_model.specs.declared.entry.Entry.{Entry}
 use Rattle.hippo_model.specs.Terms.{History}
 use Rattle.hippo_policy.specs.Books.{IsKept}
 use Rattle.hippo_policy.specs.Words.{Said, with_word, without_word, numbered_words}
-use Rattle.hippo_policy.proofs.SaidLemmas.{numbered_from, with_said, no_earlier-numbered_words}
+use Rattle.hippo_policy.proofs.SaidLemmas.{numbered_from, with_said, clamped_number-numbered_words}
 
 module _ {A : Type 0} (word : Entry → Option A) where
   with_said-append : (number : ℕ) (said : Option A) (words more : List (Said A)) → with_said word number said (words ++ more) ≡ with_said word number said words ++ more
@@ -34,7 +34,7 @@ module _ {A : Type 0} (word : Entry → Option A) where
   numbered_words-spoken false said history entry silent next = sym (numbered_words-silent history entry silent)
   numbered_words-spoken true said history entry spoken next =
       let e : 1 + length history ≡ said.number = omega (arith, next) in
-      ap (λ (said : Said A). numbered_words word history ++ said ∷ []) (no_earlier-numbered_words word history said next)
+      ap (λ (said : Said A). numbered_words word history ++ said ∷ []) (clamped_number-numbered_words word history said next)
       ∙ sym (numbered_words-append history entry ∙ rw (spoken, e) refl)
 
   without-last : (words : List (Said A)) (said : Said A) → take (length (words ++ said ∷ []) - 1) (words ++ said ∷ []) ≡ words

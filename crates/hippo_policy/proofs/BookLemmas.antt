@@ -23,7 +23,7 @@ use Rattle.hippo_policy.specs.declared.ruled_tables.RuledTables.{RuledTables}
 use Rattle.hippo_policy.specs.Keys.{same_cell_key, same_choice, same_user, same_name}
 use Rattle.hippo_policy.specs.Cells.{cell_words}
 use Rattle.hippo_policy.specs.Words.{LastWords, kept_words, with_word}
-use Rattle.hippo_policy.specs.Books.{BookStandsFor, BookIsAsBefore, BookAdds, AddsUser, AddsRule, rule_word, choice_word, user_word, item_word, cell_keys, leaves_book, cell_of}
+use Rattle.hippo_policy.specs.Books.{BookRepresents, BookIsAsBefore, BookAdds, AddsUser, AddsRule, rule_word, choice_word, user_word, item_word, cell_keys, leaves_book, cell_of}
 use Rattle.hippo_policy.proofs.AddLemmas.{IsKept-silent, IsKept-spoken}
 
 -- an act of any other kind sets no value
@@ -89,8 +89,8 @@ module _ (old : PolicyBook) (number : ℕ) where
   }
 
   -- an entry that sets no value that is kept
-  silent-kept : (last : Matter) (history : History) (entry : Entry) → ((key : CellKey) → rule_word key entry ≡ None) → ((key : ChoiceKey) → choice_word key entry ≡ None) → ((key : UserKey) → user_word key entry ≡ None) → ((item : Name) → item_word item entry ≡ None) → BookStandsFor old history
-      → BookStandsFor (record { rules = old.rules; choices = old.choices; users = old.users; items = old.items; last = last }) (history ++ entry ∷ [])
+  silent-kept : (last : Matter) (history : History) (entry : Entry) → ((key : CellKey) → rule_word key entry ≡ None) → ((key : ChoiceKey) → choice_word key entry ≡ None) → ((key : UserKey) → user_word key entry ≡ None) → ((item : Name) → item_word item entry ≡ None) → BookRepresents old history
+      → BookRepresents (record { rules = old.rules; choices = old.choices; users = old.users; items = old.items; last = last }) (history ++ entry ∷ [])
   silent-kept last history entry rules choices users items kept = record {
     rules = IsKept-silent rule_word history entry (cell_words old.rules) rules kept.rules;
     choices = IsKept-silent choice_word history entry (kept_words same_choice old.choices) choices kept.choices;
@@ -119,8 +119,8 @@ module _ (old : PolicyBook) (number : ℕ) where
   -- one more value for a user
   user-kept : (users : LastWords UserKey Authorization) (last : Matter) (key : UserKey) (word : Authorization) (history : History) (entry : Entry)
       → ((other : UserKey) → kept_words same_user users other ≡ with_word (same_user key other) (record { number = number; word = word }) (kept_words same_user old.users other))
-      → ((key : CellKey) → rule_word key entry ≡ None) → ((key : ChoiceKey) → choice_word key entry ≡ None) → ((other : UserKey) → user_word other entry ≡ then_some (same_user key other) word) → ((item : Name) → item_word item entry ≡ None) → number ≡ length history + 1 → BookStandsFor old history
-      → BookStandsFor (record { rules = old.rules; choices = old.choices; users = users; items = old.items; last = last }) (history ++ entry ∷ [])
+      → ((key : CellKey) → rule_word key entry ≡ None) → ((key : ChoiceKey) → choice_word key entry ≡ None) → ((other : UserKey) → user_word other entry ≡ then_some (same_user key other) word) → ((item : Name) → item_word item entry ≡ None) → number ≡ length history + 1 → BookRepresents old history
+      → BookRepresents (record { rules = old.rules; choices = old.choices; users = users; items = old.items; last = last }) (history ++ entry ∷ [])
   user-kept users last key word history entry added rules choices spoken items next kept = record {
     rules = IsKept-silent rule_word history entry (cell_words old.rules) rules kept.rules;
     choices = IsKept-silent choice_word history entry (kept_words same_choice old.choices) choices kept.choices;
@@ -130,8 +130,8 @@ module _ (old : PolicyBook) (number : ℕ) where
 
   rule-kept : (rules : RuledTables) (last : Matter) (keys : List CellKey) (word : Rule) (history : History) (entry : Entry)
       → ((other : CellKey) → cell_words rules other ≡ with_word (list_any (λ key. same_cell_key key other) keys) (record { number = number; word = word }) (cell_words old.rules other))
-      → ((other : CellKey) → rule_word other entry ≡ then_some (list_any (λ key. same_cell_key key other) keys) word) → ((key : ChoiceKey) → choice_word key entry ≡ None) → ((key : UserKey) → user_word key entry ≡ None) → ((item : Name) → item_word item entry ≡ None) → number ≡ length history + 1 → BookStandsFor old history
-      → BookStandsFor (record { rules = rules; choices = old.choices; users = old.users; items = old.items; last = last }) (history ++ entry ∷ [])
+      → ((other : CellKey) → rule_word other entry ≡ then_some (list_any (λ key. same_cell_key key other) keys) word) → ((key : ChoiceKey) → choice_word key entry ≡ None) → ((key : UserKey) → user_word key entry ≡ None) → ((item : Name) → item_word item entry ≡ None) → number ≡ length history + 1 → BookRepresents old history
+      → BookRepresents (record { rules = rules; choices = old.choices; users = old.users; items = old.items; last = last }) (history ++ entry ∷ [])
   rule-kept rules last keys word history entry added spoken choices users items next kept = record {
     rules = IsKept-spoken rule_word history entry (cell_words old.rules) (cell_words rules) (λ other. list_any (λ key. same_cell_key key other) keys) (record { number = number; word = word }) added spoken next kept.rules;
     choices = IsKept-silent choice_word history entry (kept_words same_choice old.choices) choices kept.choices;
@@ -144,25 +144,25 @@ module _ (old : PolicyBook) (number : ℕ) where
 
   pub BookAdds-authorize : (new : PolicyBook) (user purpose recipient : Name) → AddsUser old new number (record { user = user; purpose = purpose; recipient = recipient }) Yes → BookAdds old new number (Authorize user purpose recipient)
   BookAdds-authorize new user purpose recipient added = record {
-    stands = λ history entry is seq next kept. subst (λ book. BookStandsFor book (history ++ entry ∷ [])) (sym added.others) (user-kept new.users (User (user_key user purpose recipient)) (user_key user purpose recipient) Yes history entry added.users (λ key. rw is refl) (λ key. rw is refl) (λ other. rw (is, and-assoc (bytes_eq user other.user) (bytes_eq purpose other.purpose) (bytes_eq recipient other.recipient)) refl) (λ item. rw is refl) next kept);
+    stands = λ history entry is seq next kept. subst (λ book. BookRepresents book (history ++ entry ∷ [])) (sym added.others) (user-kept new.users (User (user_key user purpose recipient)) (user_key user purpose recipient) Yes history entry added.users (λ key. rw is refl) (λ key. rw is refl) (λ other. rw (is, and-assoc (bytes_eq user other.user) (bytes_eq purpose other.purpose) (bytes_eq recipient other.recipient)) refl) (λ item. rw is refl) next kept);
     remembers = ap (λ (book : PolicyBook). book.last) added.others;
   }
 
   pub BookAdds-deauthorize : (new : PolicyBook) (user purpose recipient : Name) → AddsUser old new number (record { user = user; purpose = purpose; recipient = recipient }) (No number) → BookAdds old new number (Deauthorize user purpose recipient)
   BookAdds-deauthorize new user purpose recipient added = record {
-    stands = λ history entry is seq next kept. subst (λ book. BookStandsFor book (history ++ entry ∷ [])) (sym added.others) (user-kept new.users (User (user_key user purpose recipient)) (user_key user purpose recipient) (No number) history entry added.users (λ key. rw is refl) (λ key. rw is refl) (λ other. rw (is, seq, and-assoc (bytes_eq user other.user) (bytes_eq purpose other.purpose) (bytes_eq recipient other.recipient)) refl) (λ item. rw is refl) next kept);
+    stands = λ history entry is seq next kept. subst (λ book. BookRepresents book (history ++ entry ∷ [])) (sym added.others) (user-kept new.users (User (user_key user purpose recipient)) (user_key user purpose recipient) (No number) history entry added.users (λ key. rw is refl) (λ key. rw is refl) (λ other. rw (is, seq, and-assoc (bytes_eq user other.user) (bytes_eq purpose other.purpose) (bytes_eq recipient other.recipient)) refl) (λ item. rw is refl) next kept);
     remembers = ap (λ (book : PolicyBook). book.last) added.others;
   }
 
   pub BookAdds-allow : (new : PolicyBook) (purpose recipient table : Name) (columns : List Place) (item : Option Name) (days : Option ℕ) → AddsRule old new number (cell_keys purpose recipient table columns) (allowed number item days) → BookAdds old new number (Allow purpose recipient table columns item days)
   BookAdds-allow new purpose recipient table columns item days added = record {
-    stands = λ history entry is seq next kept. subst (λ book. BookStandsFor book (history ++ entry ∷ [])) (sym added.others) (rule-kept new.rules (Cells (cell_keys purpose recipient table columns)) (cell_keys purpose recipient table columns) (allowed number item days) history entry added.rules (λ other. rw (is, seq, named purpose recipient table other columns) refl) (λ key. rw is refl) (λ key. rw is refl) (λ item. rw is refl) next kept);
+    stands = λ history entry is seq next kept. subst (λ book. BookRepresents book (history ++ entry ∷ [])) (sym added.others) (rule-kept new.rules (Cells (cell_keys purpose recipient table columns)) (cell_keys purpose recipient table columns) (allowed number item days) history entry added.rules (λ other. rw (is, seq, named purpose recipient table other columns) refl) (λ key. rw is refl) (λ key. rw is refl) (λ item. rw is refl) next kept);
     remembers = ap (λ (book : PolicyBook). book.last) added.others;
   }
 
   pub BookAdds-revoke : (new : PolicyBook) (purpose recipient table : Name) (columns : List Place) → AddsRule old new number (cell_keys purpose recipient table columns) (revoked number) → BookAdds old new number (Revoke purpose recipient table columns)
   BookAdds-revoke new purpose recipient table columns added = record {
-    stands = λ history entry is seq next kept. subst (λ book. BookStandsFor book (history ++ entry ∷ [])) (sym added.others) (rule-kept new.rules (Cells (cell_keys purpose recipient table columns)) (cell_keys purpose recipient table columns) (revoked number) history entry added.rules (λ other. rw (is, seq, named purpose recipient table other columns) refl) (λ key. rw is refl) (λ key. rw is refl) (λ item. rw is refl) next kept);
+    stands = λ history entry is seq next kept. subst (λ book. BookRepresents book (history ++ entry ∷ [])) (sym added.others) (rule-kept new.rules (Cells (cell_keys purpose recipient table columns)) (cell_keys purpose recipient table columns) (revoked number) history entry added.rules (λ other. rw (is, seq, named purpose recipient table other columns) refl) (λ key. rw is refl) (λ key. rw is refl) (λ item. rw is refl) next kept);
     remembers = ap (λ (book : PolicyBook). book.last) added.others;
   }
 

@@ -10,7 +10,7 @@ use Rattle.std.specs.Option.{option_or}
 use Rattle.hippo_model.specs.declared.entry.Entry.{Entry}
 use Rattle.hippo_model.specs.Terms.{History}
 use Rattle.hippo_model.specs.Histories.{last_word}
-use Rattle.hippo_policy.specs.Words.{Said, latest_number, no_earlier, numbered_words, latest}
+use Rattle.hippo_policy.specs.Words.{Said, latest_number, clamped_number, numbered_words, latest}
 
 module _ {A : Type 0} where
   -- the last member
@@ -105,24 +105,24 @@ module _ {A : Type 0} (word : Entry → Option A) where
       rw (slice_get-get_or (said ∷ later) (length (said ∷ later) - 1) said (omega arith)) (omega arith)
 
   -- the next value of a history keeps its number
-  pub no_earlier-numbered_words : (history : History) (said : Said A) → said.number ≡ length history + 1 → no_earlier (numbered_words word history) said ≡ said
-  no_earlier-numbered_words history said next =
+  pub clamped_number-numbered_words : (history : History) (said : Said A) → said.number ≡ length history + 1 → clamped_number (numbered_words word history) said ≡ said
+  clamped_number-numbered_words history said next =
       let below : IsBelow (length history + 1) (numbered_words word history) = λ k d short. let less = IsBelow-numbered_words 1 history k d short in omega arith in
       let least = latest_number-below (length history) (numbered_words word history) below in
       let same : max said.number (latest_number (numbered_words word history)) ≡ said.number = max-eq_left (omega arith) in
       ap (λ (number : ℕ). record { number = number; word = said.word }) same
 
 module _ {A : Type 0} where
-  -- numbers that never decrease still do not after `no_earlier` adds a value
-  pub rises-no_earlier : (words : List (Said A)) (said : Said A) → IsNonDecreasingBy (λ (s : Said A). s.number) words → IsNonDecreasingBy (λ (s : Said A). s.number) (words ++ no_earlier words said ∷ [])
-  rises-no_earlier words said rises =
-      IsNonDecreasingBy-push (λ (s : Said A). s.number) words (no_earlier words said) rises
+  -- numbers that never decrease still do not after `clamped_number` adds a value
+  pub rises-clamped_number : (words : List (Said A)) (said : Said A) → IsNonDecreasingBy (λ (s : Said A). s.number) words → IsNonDecreasingBy (λ (s : Said A). s.number) (words ++ clamped_number words said ∷ [])
+  rises-clamped_number words said rises =
+      IsNonDecreasingBy-push (λ (s : Said A). s.number) words (clamped_number words said) rises
       (λ d some. rw (slice_get-get_or words (length words - 1) d (omega arith)) (le-max_right said.number (slice_index_or words (length words - 1) d).number))
 
   -- and so whether it is added or not
   pub rises-pushed : (added : Bool) (words items : List (Said A)) (said : Said A) (number : ℕ) → number ≡ max said.number (latest_number words) → IsNonDecreasingBy (λ (s : Said A). s.number) words
       → items ≡ (if added then words ++ record { number = number; word = said.word } ∷ [] else words) → IsNonDecreasingBy (λ (s : Said A). s.number) items
   rises-pushed true words items said number is rises pushed =
-      let same : items ≡ words ++ no_earlier words said ∷ [] = pushed ∙ ap (λ (n : ℕ). words ++ record { number = n; word = said.word } ∷ []) is in
-      subst (λ (items : List (Said A)). IsNonDecreasingBy (λ (s : Said A). s.number) items) (sym same) (rises-no_earlier words said rises)
+      let same : items ≡ words ++ clamped_number words said ∷ [] = pushed ∙ ap (λ (n : ℕ). words ++ record { number = n; word = said.word } ∷ []) is in
+      subst (λ (items : List (Said A)). IsNonDecreasingBy (λ (s : Said A). s.number) items) (sym same) (rises-clamped_number words said rises)
   rises-pushed false words items said number is rises pushed = subst (λ (items : List (Said A)). IsNonDecreasingBy (λ (s : Said A). s.number) items) (sym pushed) rises

@@ -20,7 +20,7 @@ use Rattle.hippo_policy.specs.declared.ruled_tables.RuledTables.{RuledTables}
 use Rattle.hippo_policy.specs.Keys.{same_cell_key, same_choice, same_user, same_name}
 use Rattle.hippo_policy.specs.Cells.{cell_words}
 use Rattle.hippo_policy.specs.Words.{LastWords, Said, kept_words, without_word}
-use Rattle.hippo_policy.specs.Books.{BookStandsFor, IsKept, rule_word, choice_word, user_word, item_word, cell_keys, matter_of}
+use Rattle.hippo_policy.specs.Books.{BookRepresents, IsKept, rule_word, choice_word, user_word, item_word, cell_keys, matter_of}
 use Rattle.hippo_policy.proofs.AddLemmas.{IsKept-unspoken, numbered_words-silent}
 use Rattle.hippo_policy.proofs.BookLemmas.{and-assoc, named}
 
@@ -76,8 +76,8 @@ module _ {K A : Type 0} (word : K → Entry → Option A) (history : History) (e
   IsKept-before : (kept : K → List (Said A)) → ((key : K) → word key entry ≡ None) → IsKept kept word (history ++ entry ∷ []) → IsKept kept word history
   IsKept-before kept silent is key = is key ∙ numbered_words-silent (word key) history entry (silent key)
 
-module _ (old : PolicyBook) (history : History) (entry : Entry) (kept : BookStandsFor old (history ++ entry ∷ [])) where
-  pub before-nothing : Nothing ≡ matter_of entry.act → BookStandsFor old history
+module _ (old : PolicyBook) (history : History) (entry : Entry) (kept : BookRepresents old (history ++ entry ∷ [])) where
+  pub before-nothing : Nothing ≡ matter_of entry.act → BookRepresents old history
   before-nothing of =
       let says = says-nothing entry entry.act refl of in
       record {
@@ -88,7 +88,7 @@ module _ (old : PolicyBook) (history : History) (entry : Entry) (kept : BookStan
       }
 
   pub before-cells : (keys : List CellKey) → Cells keys ≡ matter_of entry.act → (rules : RuledTables) → ((other : CellKey) → cell_words rules other ≡ without_word (list_any (λ key. same_cell_key key other) keys) (cell_words old.rules other))
-      → BookStandsFor (record { rules = rules; choices = old.choices; users = old.users; items = old.items; last = old.last }) history
+      → BookRepresents (record { rules = rules; choices = old.choices; users = old.users; items = old.items; last = old.last }) history
   before-cells keys of rules taken =
       let said = says-cells entry keys entry.act refl of in
       record {
@@ -99,7 +99,7 @@ module _ (old : PolicyBook) (history : History) (entry : Entry) (kept : BookStan
       }
 
   pub before-choice : (key : ChoiceKey) → OfChoice key ≡ matter_of entry.act → (choices : LastWords ChoiceKey Bool) → ((other : ChoiceKey) → kept_words same_choice choices other ≡ without_word (same_choice key other) (kept_words same_choice old.choices other))
-      → BookStandsFor (record { rules = old.rules; choices = choices; users = old.users; items = old.items; last = old.last }) history
+      → BookRepresents (record { rules = old.rules; choices = choices; users = old.users; items = old.items; last = old.last }) history
   before-choice key of choices taken =
       let said = says-choice entry key entry.act refl of in
       record {
@@ -110,7 +110,7 @@ module _ (old : PolicyBook) (history : History) (entry : Entry) (kept : BookStan
       }
 
   pub before-user : (key : UserKey) → User key ≡ matter_of entry.act → (users : LastWords UserKey Authorization) → ((other : UserKey) → kept_words same_user users other ≡ without_word (same_user key other) (kept_words same_user old.users other))
-      → BookStandsFor (record { rules = old.rules; choices = old.choices; users = users; items = old.items; last = old.last }) history
+      → BookRepresents (record { rules = old.rules; choices = old.choices; users = users; items = old.items; last = old.last }) history
   before-user key of users taken =
       let said = says-user entry key entry.act refl of in
       record {
@@ -121,7 +121,7 @@ module _ (old : PolicyBook) (history : History) (entry : Entry) (kept : BookStan
       }
 
   pub before-item : (key : Name) → OfItem key ≡ matter_of entry.act → (items : LastWords Name ItemKind) → ((other : Name) → kept_words same_name items other ≡ without_word (same_name key other) (kept_words same_name old.items other))
-      → BookStandsFor (record { rules = old.rules; choices = old.choices; users = old.users; items = items; last = old.last }) history
+      → BookRepresents (record { rules = old.rules; choices = old.choices; users = old.users; items = items; last = old.last }) history
   before-item key of items taken =
       let said = says-item entry key entry.act refl of in
       record {

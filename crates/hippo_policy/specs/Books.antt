@@ -53,7 +53,7 @@ abbrev pub IsKept : {K A : Type 0} → (K → List (Said A)) → (K → Entry �
 IsKept {K} kept word history = (key : K) → kept key ≡ numbered_words (word key) history
 
 -- the book holds the values that a history sets
-pub record BookStandsFor (book : PolicyBook) (history : History) : Type 0 where
+pub record BookRepresents (book : PolicyBook) (history : History) : Type 0 where
   pub rules : IsKept (cell_words book.rules) rule_word history
   pub choices : IsKept (kept_words same_choice book.choices) choice_word history
   pub users : IsKept (kept_words same_user book.users) user_word history
@@ -106,7 +106,7 @@ RemembersMatter book act = book.last ≡ matter_of act
 pub record BookAdds (old new : PolicyBook) (number : ℕ) (act : Act) : Type 0 where
   pub stands : (history : History) (entry : Entry) → entry.act ≡ act → entry.seq ≡ number
       → number ≡ length history + 1
-      → BookStandsFor old history → BookStandsFor new (history ++ entry ∷ [])
+      → BookRepresents old history → BookRepresents new (history ++ entry ∷ [])
   pub remembers : RemembersMatter new act
 
 -- a book with these rules, users and last matter, and the choices and items of another book
@@ -140,7 +140,7 @@ pub record AddsRule (old new : PolicyBook) (number : ℕ) (keys : List CellKey) 
 
 -- the new book represents every history that the old one represents
 pub record BookIsAsBefore (old new : PolicyBook) : Type 0 where
-  pub stands : (history : History) → BookStandsFor old history → BookStandsFor new history
+  pub stands : (history : History) → BookRepresents old history → BookRepresents new history
   pub remembers : new.last ≡ old.last
 
 -- the last choice of a patient on an item that a book keeps, up to an entry number

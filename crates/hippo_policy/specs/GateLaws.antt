@@ -9,8 +9,8 @@ use Rattle.hippo_policy.specs.Gates.{table_rules, rules_verdict}
 
 -- the gate of a column decides as the verdict on the column's cell does, in every row, whenever the
 -- row was born
-abbrev pub GatesStandForVerdicts : Type 0
-GatesStandForVerdicts =
+abbrev pub GatesMatchVerdicts : Type 0
+GatesMatchVerdicts =
     (history : History) (context : Context) (schema : Schema) (kept : BornRow) (column : Place)
     → column < length schema.columns
     → rules_verdict (choice_at history) (table_rules history context schema) kept column

@@ -31,12 +31,13 @@ latest_number words = option_map_or (λ said. said.number) (slice_get words (len
 
 -- the next value, its number raised to the last one if it is below; the entries of a history have
 -- increasing numbers, so that this changes none of them
-abbrev pub no_earlier : {A : Type 0} → List (Said A) → Said A → Said A
-no_earlier words said = record { number = max said.number (latest_number words); word = said.word }
+abbrev pub clamped_number : {A : Type 0} → List (Said A) → Said A → Said A
+clamped_number words said =
+    record { number = max said.number (latest_number words); word = said.word }
 
 -- one more value, if one is set
 abbrev pub with_word : {A : Type 0} → Bool → Said A → List (Said A) → List (Said A)
-with_word is_said said words = if is_said then words ++ no_earlier words said ∷ [] else words
+with_word is_said said words = if is_said then words ++ clamped_number words said ∷ [] else words
 
 -- the last value removed, if one was set
 abbrev pub without_word : {A : Type 0} → Bool → List (Said A) → List (Said A)

@@ -3,7 +3,7 @@ ghost use Rattle.std.specs.Prelude.{◌≡◌, true, IsOk, ◌∷◌, [], ◌++�
 ghost use Rattle.hippo_model.specs.Terms.{History};
 ghost use Rattle.hippo_model.specs.declared.entry.Entry.{Entry as HistoryEntry};
 ghost use Rattle.hippo_model.specs.declared.entry.Act.TheVariants.{Item, Choice};
-ghost use Rattle.hippo_policy.specs.Books.{BookStandsFor, RemembersMatter, BookAdds, AddsUser, AddsRule, BookIsAsBefore, cell_keys, ruled_cells, leaves_book};
+ghost use Rattle.hippo_policy.specs.Books.{BookRepresents, RemembersMatter, BookAdds, AddsUser, AddsRule, BookIsAsBefore, cell_keys, ruled_cells, leaves_book};
 ghost use Rattle.hippo_policy.specs.Rulings.{ruling_in};
 
 use crate::keys::{CellKey, ChoiceKey, KeyName, UserKey};
@@ -78,7 +78,7 @@ fn ruled_cells(alloc: Global, act: &Act) -> Result<Sequence<CellKey<'static>>, M
 impl PolicyBook {
     /// The book of the empty history. Takes no memory.
     pub fn new(alloc: Global) -> PolicyBook
-        ensures { BookStandsFor result [] }
+        ensures { BookRepresents result [] }
     {
         PolicyBook {
             rules: RuledTables::new(alloc),
@@ -205,7 +205,7 @@ impl PolicyBook {
     /// represents no history.
     pub fn take_back(&mut self)
         ensures { (history : History) (entry : HistoryEntry) → RemembersMatter self.old entry.act
-            → BookStandsFor self.old (history ++ entry ∷ []) → BookStandsFor self.new history }
+            → BookRepresents self.old (history ++ entry ∷ []) → BookRepresents self.new history }
     {
         match &self.last {
             Matter::Nothing => {}

@@ -3,7 +3,7 @@ ghost use Rattle.std.specs.Prelude.{◌≡◌, ℤ, take};
 ghost use Rattle.hippo_values.specs.declared.names.Name.{Name as NameValue};
 ghost use Rattle.hippo_model.specs.Terms.{History};
 ghost use Rattle.hippo_model.specs.Rules.{choice_at};
-ghost use Rattle.hippo_policy.specs.Books.{BookStandsFor, choice_kept};
+ghost use Rattle.hippo_policy.specs.Books.{BookRepresents, choice_kept};
 
 use crate::book::PolicyBook;
 use hippo_model::ChoiceView;
@@ -27,7 +27,7 @@ impl<'a> ChoiceView for ChoicesAt<'a> {
 impl PolicyBook {
     /// The choices of patients among the first `n` entries. Takes no memory.
     pub fn choices_at(&self, n: u64) -> ChoicesAt<'_>
-        ensures { (history : History) → BookStandsFor self.now history
+        ensures { (history : History) → BookRepresents self.now history
             → (subject : ℤ) (item : NameValue)
             → ⟦<ChoicesAt<'static> as ChoiceView>⟧.choices result subject item
             ≡ choice_at (take n history) subject item }

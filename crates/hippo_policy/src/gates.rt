@@ -1,7 +1,7 @@
 //! Gates: what decides whether the cells of a column are shown, as of an entry number.
 ghost use Rattle.std.specs.Prelude.{◌≡◌, take, IfOk, Some, option_copied, option_map, map};
 ghost use Rattle.hippo_model.specs.Terms.{History};
-ghost use Rattle.hippo_policy.specs.Books.{BookStandsFor};
+ghost use Rattle.hippo_policy.specs.Books.{BookRepresents};
 ghost use Rattle.hippo_policy.specs.Gates.{after, gate_of_age, gate_of_item, gate_by, table_rules};
 ghost use Rattle.hippo_model.specs.Rules.{allowed};
 
@@ -43,7 +43,7 @@ impl PolicyBook {
         item: &Name,
         days: Option<u32>,
     ) -> Result<Gate, Memory>
-        ensures { IfOk result (λ gate. (history : History) → BookStandsFor self.now history
+        ensures { IfOk result (λ gate. (history : History) → BookRepresents self.now history
             → gate ≡ gate_by (take n history) moment.now
             (Some (allowed rule (Some item.now) days))) }
     {
@@ -64,7 +64,7 @@ impl PolicyBook {
         moment: &Moment,
         ruling: &Ruling,
     ) -> Result<Gate, Memory>
-        ensures { IfOk result (λ gate. (history : History) → BookStandsFor self.now history
+        ensures { IfOk result (λ gate. (history : History) → BookRepresents self.now history
             → gate ≡ gate_by (take n history) moment.now (Some ruling.now)) }
     {
         match ruling.as_rule_at() {
@@ -88,7 +88,7 @@ impl PolicyBook {
         moment: &Moment,
         ruling: Option<&Ruling>,
     ) -> Result<Gate, Memory>
-        ensures { IfOk result (λ gate. (history : History) → BookStandsFor self.now history
+        ensures { IfOk result (λ gate. (history : History) → BookRepresents self.now history
             → gate ≡ gate_by (take n history) moment.now (option_copied ruling.entry)) }
     {
         match ruling {
@@ -133,7 +133,7 @@ impl PolicyBook {
         recipient: &'a Name,
         schema: &'a Schema,
     ) -> Result<TableRules, Memory>
-        ensures { IfOk result (λ rules. (history : History) → BookStandsFor self.now history
+        ensures { IfOk result (λ rules. (history : History) → BookRepresents self.now history
             → rules ≡ table_rules (take n history)
             (record { purpose = purpose.now; recipient = recipient.now; moment = moment.now })
             schema.now) }
@@ -165,7 +165,7 @@ impl PolicyBook {
         recipient: &Name,
         tables: &LentSchemas<'_>,
     ) -> Result<RulesInForce, Memory>
-        ensures { IfOk result (λ rules. (history : History) → BookStandsFor self.now history
+        ensures { IfOk result (λ rules. (history : History) → BookRepresents self.now history
             → rules ≡ map (table_rules (take n history)
             (record { purpose = purpose.now; recipient = recipient.now; moment = moment }))
             tables.now) }

@@ -5,7 +5,7 @@ ghost use Rattle.std.specs.List.Sorted.{IsNonDecreasingBy};
 ghost use Rattle.hippo_model.specs.Terms.{History};
 ghost use Rattle.hippo_model.specs.Histories.{last_word};
 ghost use Rattle.hippo_model.specs.declared.entry.Entry.{Entry};
-ghost use Rattle.hippo_policy.specs.Words.{Said, kept_words, no_earlier, with_word, without_word, numbered_words, latest};
+ghost use Rattle.hippo_policy.specs.Words.{Said, kept_words, clamped_number, with_word, without_word, numbered_words, latest};
 
 use crate::sayings::Sayings;
 use hippo_values::Memory;
@@ -79,7 +79,7 @@ impl<K: Eq + Hash + Drop, W: Drop> LastWords<K, W> {
 
     fn begin(&mut self, alloc: Global, key: K, said: Said<W>) -> Result<(), Memory>
         ensures ok { OnOk result ((other : K) → kept_words K.eq self.new other
-            ≡ (if K.eq key other then no_earlier [] said ∷ []
+            ≡ (if K.eq key other then clamped_number [] said ∷ []
             else kept_words K.eq self.old other)) }
         ensures err { OnErr result ((other : K)
             → kept_words K.eq self.new other ≡ kept_words K.eq self.old other) }

@@ -15,7 +15,7 @@ pub struct Sayings<W> {
 }
 
 impl<W: Drop> Sayings<W> {
-    ghost use Rattle.hippo_policy.specs.Words.{latest_number, no_earlier};
+    ghost use Rattle.hippo_policy.specs.Words.{latest_number, clamped_number};
 
     /// An empty list. Takes no memory.
     pub fn new(alloc: Global) -> Sayings<W>
@@ -47,7 +47,7 @@ impl<W: Drop> Sayings<W> {
     /// memory.
     pub fn push(&mut self, said: Said<W>) -> Result<(), Memory>
         ensures ok { OnOk result (self.new.said.items
-            ≡ self.old.said.items ++ no_earlier self.old.said.items said ∷ []) }
+            ≡ self.old.said.items ++ clamped_number self.old.said.items said ∷ []) }
         ensures err { OnErr result (self.new.said.items ≡ self.old.said.items) }
     {
         let Said { number, word } = said;

@@ -2,7 +2,7 @@
 ghost use Rattle.std.specs.Prelude.{◌≡◌, take, option_copied, Some, ◌-ℤ◌, ◌*◌};
 ghost use Rattle.hippo_model.specs.Terms.{History};
 ghost use Rattle.hippo_model.specs.Verdicts.{subject_of, consents, has_ended, verdict, verdict_by};
-ghost use Rattle.hippo_policy.specs.Books.{BookStandsFor};
+ghost use Rattle.hippo_policy.specs.Books.{BookRepresents};
 
 use crate::book::PolicyBook;
 use crate::keys::CellKey;
@@ -36,7 +36,7 @@ fn has_ended(moment: &Moment, born: &Moment, days: Option<u32>) -> bool
 impl PolicyBook {
     // Whether a patient consents to an item.
     fn agrees(&self, n: u64, subject: &i64, item: &Name) -> bool
-        ensures { (history : History) → BookStandsFor self.now history
+        ensures { (history : History) → BookRepresents self.now history
             → result ≡ consents (take n history) (Some subject.now) (Some item.now) }
     {
         let choice = self.choice_of(n, subject, item);
@@ -48,7 +48,7 @@ impl PolicyBook {
     }
 
     fn consents(&self, n: u64, subject: Option<&i64>, item: &Name) -> bool
-        ensures { (history : History) → BookStandsFor self.now history
+        ensures { (history : History) → BookRepresents self.now history
             → result ≡ consents (take n history) (option_copied subject.entry) (Some item.now) }
     {
         match subject {
@@ -66,7 +66,7 @@ impl PolicyBook {
         subject: Option<&i64>,
         ruling: &Ruling,
     ) -> Verdict
-        ensures { (history : History) → BookStandsFor self.now history
+        ensures { (history : History) → BookRepresents self.now history
             → result
             ≡ verdict_by (take n history) (moment.now -ℤ born.now) (option_copied subject.entry)
             (Some ruling.now) }
@@ -110,7 +110,7 @@ impl PolicyBook {
         born: Moment,
         column: usize,
     ) -> Verdict
-        ensures { (history : History) → BookStandsFor self.now history
+        ensures { (history : History) → BookRepresents self.now history
             → result ≡ verdict (take n history)
             (record { purpose = purpose.now; recipient = recipient.now; moment = moment })
             schema.now (record { row = row.now; born = born }) column }

@@ -64,7 +64,7 @@ abbrev pub number_or : ℕ → Option Txt → ℕ
 number_or otherwise written =
     option_map_or (λ text. digits_value 10 (without_leading_plus text)) written otherwise
 
--- the format with this name; text if none is given
+-- the format with this name
 abbrev pub format_named : Txt → Option Format
 format_named name =
     if bytes_eq name (codes "text") then Some formats.Text
@@ -72,5 +72,6 @@ format_named name =
     else if bytes_eq name (codes "csv") then Some formats.Csv
     else None
 
+-- the format that is asked for; text if none is given
 abbrev pub format_in : List Row → Option Format
 format_in rows = format_named (unwrap_or (first_of (codes "format") rows) (codes "text"))

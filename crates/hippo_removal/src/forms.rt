@@ -1,7 +1,7 @@
 //! The rows of an answer by its form, computed as the definitions say.
 ghost use Rattle.std.specs.Prelude.{◌≡◌, ◌∷◌, not, filter, IfOk};
 ghost use Rattle.hippo_model.specs.Bags.{same_row};
-ghost use Rattle.hippo_model.specs.Forms.{different_rows, rows_by_form};
+ghost use Rattle.hippo_model.specs.Forms.{distinct_rows, rows_by_form};
 
 use crate::bags::same_row;
 use crate::groups::grouped;
@@ -26,7 +26,7 @@ fn in_front(alloc: Global, first: &CellRow, others: &Answer) -> Result<Answer, M
 
 /// The different rows, each at its first place.
 pub(crate) fn different(alloc: Global, rows: &[CellRow]) -> Result<Answer, Memory>
-    ensures { IfOk result (λ kept. kept ≡ different_rows rows.now) }
+    ensures { IfOk result (λ kept. kept ≡ distinct_rows rows.now) }
 {
     let mut kept = Sequence::new(alloc);
     for index in 0..rows.len() {

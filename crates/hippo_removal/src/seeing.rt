@@ -43,7 +43,7 @@ impl<'a, C: ChoiceView> Seeker<'a, C> {
     ghost use Rattle.hippo_removal.specs.Removing.{is_seen_in};
 
     // Whether this is such a combination.
-    fn is_it(&self, alloc: Global, combo: &Combo<'_>) -> Result<bool, Memory>
+    fn refers_to(&self, alloc: Global, combo: &Combo<'_>) -> Result<bool, Memory>
         ensures { IfOk result (λ is. is ≡ is_seen_in (C.choices self.now.choices.now)
             self.now.query.now
             self.now.seen.now self.now.sets.now self.now.tuple.now combo.now) }
@@ -73,7 +73,7 @@ impl<'a, C: ChoiceView> Visitor for Seeker<'a, C> {
         if *state {
             return Ok(Onward::Enough);
         }
-        *state = self.is_it(alloc, combo)?;
+        *state = self.refers_to(alloc, combo)?;
         Ok(Onward::More)
     }
 }

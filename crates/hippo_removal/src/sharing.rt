@@ -12,7 +12,7 @@ use crate::snapshots::BothSets;
 use crate::tuples::key_of;
 use hippo_audit_common::place_in;
 use hippo_audit_needs::laws::needed_serves_first;
-use hippo_audit_needs::to_be_seen;
+use hippo_audit_needs::required_shown;
 use hippo_eval::{Onward, Visitor, unmasked_condition, walk};
 use hippo_model::{
     Audit, ChoiceView, Combo, Expr, Exprs, Form, Lent, Masked, Names, Query, RulesInForce,
@@ -268,7 +268,7 @@ pub(crate) fn first_serving<C: ChoiceView>(
         sets.now.audit (C.choices choices.now) shared) }
 {
     needed_serves_first();
-    let seen = to_be_seen(alloc, query, audit, rules)?;
+    let seen = required_shown(alloc, query, audit, rules)?;
     let masked = rewrite(alloc, query, rules)?;
     let shared = first_removed(alloc, &query.form, &masked, &seen, audit, sets, choices);
     drop(masked);

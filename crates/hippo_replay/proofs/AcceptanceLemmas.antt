@@ -26,9 +26,9 @@ use Rattle.hippo_typing.specs.Meanings.{meaning}
 use Rattle.hippo_typing.specs.ResolutionLaws.{NamesAreThoseOf}
 use Rattle.hippo_typing.proofs.CatalogTheorem.{valid_names}
 use Rattle.hippo_replay.specs.declared.state.State.{State}
-use Rattle.hippo_replay.specs.Standing.{StandsFor}
+use Rattle.hippo_replay.specs.Standing.{Represents}
 
-module _ (state : State) (history : History) (stands : StandsFor state history) where
+module _ (state : State) (history : History) (stands : Represents state history) where
   names_are : NamesAreThoseOf history
   names_are = valid_names meaning history stands.valid
 
@@ -102,12 +102,12 @@ kept_by None moment low = low
 kept_by (Some last) moment low = refl
 
 -- the number of the next entry, and its moment
-pub next_is : (state : State) (history : History) (number : ℕ) → StandsFor state history → (nat_lt state.count number && (number - state.count) == 1) ≡ (number == length history + 1)
+pub next_is : (state : State) (history : History) (number : ℕ) → Represents state history → (nat_lt state.count number && (number - state.count) == 1) ≡ (number == length history + 1)
 next_is state history number stands = numbers_agree state.count (length history) number stands.count
 
-pub order_is : (state : State) (history : History) (moment : Moment) → StandsFor state history → int_le first_moment moment ≡ true → int_le state.last moment ≡ keeps_order history moment
+pub order_is : (state : State) (history : History) (moment : Moment) → Represents state history → int_le first_moment moment ≡ true → int_le state.last moment ≡ keeps_order history moment
 order_is state history moment stands low = ap (λ (last : Moment). int_le last moment) stands.last ∙ kept_by (last_word (λ e. Some e.moment) history) moment low
 
 -- taking as many entries as there are takes all of them
-pub all_taken : (state : State) (history : History) → StandsFor state history → take state.count history ≡ history
+pub all_taken : (state : State) (history : History) → Represents state history → take state.count history ≡ history
 all_taken state history stands = ap (λ n. take n history) stands.count ∙ take-length history

@@ -9,7 +9,7 @@ use Rattle.hippo_model.specs.StoredForms.{stored}
 use Rattle.hippo_model.specs.Validity.{is_valid}
 use Rattle.hippo_model_laws.proofs.ValidFronts.{holds_of_each_valid, next_number}
 use Rattle.hippo_keeper.specs.Keeping.{Store, Survivors, RisesAbove, last_number, next_number as next_kept, KeeperState, HasFound, KeepsSame}
-use Rattle.hippo_keeper.specs.Selecting.{is_any, handed_over}
+use Rattle.hippo_keeper.specs.Selecting.{is_any, selected_entries}
 use Rattle.hippo_keeper.proofs.RisingLemmas.{next_number-append}
 use Rattle.hippo_replay.specs.Loading.{KeepsFound}
 
@@ -59,8 +59,8 @@ any [] = refl
 any (entry ∷ rest) = ap (λ later. entry ∷ later) (any rest)
 
 -- a read after a prefix returns the first entries of the rest
-pub handed_over-remaining : (max last : ℕ) (front rest : Store) → last_number 0 front ≡ last → RisesAbove 0 (front ++ rest) → handed_over is_any last max (front ++ rest) ≡ take max rest
-handed_over-remaining max last front rest is rises = ap (take max) (any _ ∙ entries_after 0 last front rest is rises)
+pub selected_entries-remaining : (max last : ℕ) (front rest : Store) → last_number 0 front ≡ last → RisesAbove 0 (front ++ rest) → selected_entries is_any last max (front ++ rest) ≡ take max rest
+selected_entries-remaining max last front rest is rises = ap (take max) (any _ ∙ entries_after 0 last front rest is rises)
 
 -- if nothing is returned, nothing is left
 pub nothing_taken : (max : ℕ) (rest : Store) → 0 < max → take max rest ≡ [] → rest ≡ []

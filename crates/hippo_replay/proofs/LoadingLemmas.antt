@@ -9,7 +9,7 @@ use Rattle.hippo_model.specs.Stores.{IsStoreOf, IsDamagedAt}
 use Rattle.hippo_model_laws.proofs.OneStore.{one_history, of_none}
 use Rattle.hippo_keeper.specs.declared.faults.KeeperFault.{KeeperFault}
 use Rattle.hippo_keeper.specs.declared.faults.KeeperFault.TheVariants as keeper_faults
-use Rattle.hippo_keeper.specs.Answering.{has_failed, wants_memory}
+use Rattle.hippo_keeper.specs.Answering.{has_failed, is_out_of_memory}
 use Rattle.hippo_keeper.specs.Keeping.{Store, KeeperState, IsReady, IsAfterCall, Starts}
 use Rattle.hippo_keeper.specs.Selecting.{stored_versions}
 use Rattle.hippo_keeper.proofs.StoredLemmas.{stored_versions-stored}
@@ -17,7 +17,7 @@ use Rattle.hippo_typing.specs.Meanings.{meaning}
 use Rattle.hippo_replay.specs.declared.faults.LoadFault.{LoadFault}
 use Rattle.hippo_replay.specs.declared.faults.LoadFault.TheVariants.{Keeper, Damaged, Memory}
 use Rattle.hippo_replay.specs.declared.state.State.{State}
-use Rattle.hippo_replay.specs.Standing.{StandsFor}
+use Rattle.hippo_replay.specs.Standing.{Represents}
 use Rattle.hippo_replay.specs.Loading.{load_as_call, judges, KeepsFound, IsLoaded, Loads}
 use Rattle.hippo_replay.specs.Reading.{load_fault, ReadsAllKept}
 use Rattle.hippo_replay.proofs.KeeperLemmas.{KeepsFound-after}
@@ -26,9 +26,9 @@ use Rattle.hippo_replay.proofs.ReadingLemmas.{versions-append, same_Err}
 use Rattle.hippo_keeper.proofs.Results.{err_of, well}
 
 -- a keeper that was started or not
-call_by : {A : Type 0} (result : Result A KeeperFault) (started closed : Bool) (before after : KeeperState) → IsAfterCall started closed result before after → closed ≡ (not started && wants_memory result) → IsAfterCall after.started (not after.started && wants_memory result) result before after
+call_by : {A : Type 0} (result : Result A KeeperFault) (started closed : Bool) (before after : KeeperState) → IsAfterCall started closed result before after → closed ≡ (not started && is_out_of_memory result) → IsAfterCall after.started (not after.started && is_out_of_memory result) result before after
 call_by result started closed before after call is =
-    subst (λ (s : Bool). IsAfterCall s (not s && wants_memory result) result before after) (sym call.started_is)
+    subst (λ (s : Bool). IsAfterCall s (not s && is_out_of_memory result) result before after) (sym call.started_is)
     (subst (λ (c : Bool). IsAfterCall started c result before after) is call)
 
 module _ (name : List ℕ) (before after : KeeperState) (steps : ℕ) where
@@ -43,7 +43,7 @@ module _ (name : List ℕ) (before after : KeeperState) (steps : ℕ) where
     steps = λ tells. omega arith;
   }
     where
-      by_fault : (fault : KeeperFault) → IsAfterCall false (wants_memory (err_of (Unit {0}) fault)) (err_of (Unit {0}) fault) before after → IsAfterCall after.started (not after.started && wants_memory (load_as_call (err_of State (load_fault fault)))) (load_as_call (err_of State (load_fault fault))) before after
+      by_fault : (fault : KeeperFault) → IsAfterCall false (is_out_of_memory (err_of (Unit {0}) fault)) (err_of (Unit {0}) fault) before after → IsAfterCall after.started (not after.started && is_out_of_memory (load_as_call (err_of State (load_fault fault)))) (load_as_call (err_of State (load_fault fault))) before after
       by_fault keeper_faults.Failed call = call_by (Err keeper_faults.Failed) false false before after call refl
       by_fault keeper_faults.Memory call = call_by (Err keeper_faults.Memory) false true before after call refl
 
@@ -98,12 +98,12 @@ module _ (name : List ℕ) (before mid after : KeeperState) (steps_before steps_
     steps = steps_within (Err fault) reads;
   }
     where
-      by_fault : (fault : LoadFault) → IsAfterCall true false (load_as_call (err_of (Unit {0}) fault)) mid after → IsAfterCall after.started (not after.started && wants_memory (load_as_call (err_of State fault))) (load_as_call (err_of State fault)) before after
+      by_fault : (fault : LoadFault) → IsAfterCall true false (load_as_call (err_of (Unit {0}) fault)) mid after → IsAfterCall after.started (not after.started && is_out_of_memory (load_as_call (err_of State fault))) (load_as_call (err_of State fault)) before after
       by_fault Keeper call = call_by (Err keeper_faults.Failed) true false before after (IsAfterCall-then false (well KeeperFault) (err_of (Unit {0}) keeper_faults.Failed) before mid after refl starts.call call) refl
       by_fault (Damaged place) call = call_by (Ok tt) true false before after (IsAfterCall-then false (well KeeperFault) (well KeeperFault) before mid after refl starts.call call) refl
       by_fault Memory call = call_by (Err keeper_faults.Memory) true false before after (IsAfterCall-then false (well KeeperFault) (err_of (Unit {0}) keeper_faults.Memory) before mid after refl starts.call call) refl
 
-judged_well : {A : Type 0} (result : Result A LoadFault) → judges result ≡ true → (has_failed (load_as_call result) ≡ false) × (wants_memory (load_as_call result) ≡ false)
+judged_well : {A : Type 0} (result : Result A LoadFault) → judges result ≡ true → (has_failed (load_as_call result) ≡ false) × (is_out_of_memory (load_as_call result) ≡ false)
 judged_well (Ok value) judged = (refl, refl)
 judged_well (Err Keeper) judged = absurd (false≢true judged)
 judged_well (Err (Damaged place)) judged = (refl, refl)
@@ -126,10 +126,10 @@ module _ (name : List ℕ) (result : Result State LoadFault) (before after : Kee
   never_damaged history store place is = of_none meaning after.kept place (loads.damaged place is tells) history store
 
   -- the state stands for the history whose forms are stored
-  pub stands_for_kept : (history : History) → IsStoreOf meaning after.kept history → IfOk result (λ state. StandsFor state history)
+  pub stands_for_kept : (history : History) → IsStoreOf meaning after.kept history → IfOk result (λ state. Represents state history)
   stands_for_kept history store =
-      IfOk-weaker result (λ state. IsLoaded state after steps_before steps_after) (λ state. StandsFor state history)
-      (λ state loaded. subst (λ (h : History). StandsFor state h) (sym (loaded.only tells history store)) loaded.stands) loads.ok
+      IfOk-weaker result (λ state. IsLoaded state after steps_before steps_after) (λ state. Represents state history)
+      (λ state loaded. subst (λ (h : History). Represents state h) (sym (loaded.only tells history store)) loaded.stands) loads.ok
 
   -- if they are the forms of no valid history, there is no state
   pub never_loaded : ((history : History) → ¬ (IsStoreOf meaning after.kept history)) → (state : State) → ¬ (result ≡ Ok state)

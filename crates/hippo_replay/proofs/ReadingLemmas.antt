@@ -10,17 +10,17 @@ use Rattle.hippo_keeper.specs.declared.faults.KeeperFault.{KeeperFault}
 use Rattle.hippo_keeper.specs.declared.faults.KeeperFault.TheVariants as keeper_faults
 use Rattle.hippo_keeper.specs.Answering.{has_failed}
 use Rattle.hippo_keeper.specs.Keeping.{Store, RisesAbove, last_number, next_number as next_kept, KeeperState, IsReady, IsAfterCall}
-use Rattle.hippo_keeper.specs.Selecting.{is_any, is_stored_version, stored_versions, handed_over, HandsOver, ReadsEntries}
+use Rattle.hippo_keeper.specs.Selecting.{is_any, is_stored_version, stored_versions, selected_entries, HandsOver, ReadsEntries}
 use Rattle.hippo_typing.specs.Meanings.{meaning}
 use Rattle.hippo_replay.specs.declared.faults.LoadFault.{LoadFault}
 use Rattle.hippo_replay.specs.declared.faults.LoadFault.TheVariants.{Keeper, Damaged, Memory}
 use Rattle.hippo_replay.specs.declared.state.State.{State}
-use Rattle.hippo_replay.specs.Standing.{StandsFor, IsSound}
+use Rattle.hippo_replay.specs.Standing.{Represents, IsSound}
 use Rattle.hippo_replay.specs.TakingIn.{HasLoaded, TakesIn}
 use Rattle.hippo_replay.specs.Loading.{load_as_call}
 use Rattle.hippo_replay.specs.Reading.{load_fault, IsUpTo, ReadsPiece, IsReading, ReadsAllKept}
 use Rattle.hippo_replay.proofs.TakingInLemmas.{loaded_count}
-use Rattle.hippo_replay.proofs.KeeperLemmas.{next_kept-stored, handed_over-remaining, nothing_taken}
+use Rattle.hippo_replay.proofs.KeeperLemmas.{next_kept-stored, selected_entries-remaining, nothing_taken}
 use Rattle.hippo_keeper.proofs.CallLemmas.{KeepsSame-here, KeepsSame-then, KeepsSame-Stays, IsAfterCall-then, IsAfterCall-as, IsAfterCall-none}
 use Rattle.hippo_keeper.proofs.Results.{err_of, ok_of, well}
 
@@ -66,8 +66,8 @@ module _ (max : ℕ) (before after : KeeperState) (old new : State) (steps_old s
 
   read_told : after.tells → (store rest : Store) → IsUpTo old before store rest → piece ≡ take max rest
   read_told tells store rest upto =
-      reads.ok.told tells ∙ ap (handed_over is_any old.count max) upto.whole
-      ∙ handed_over-remaining max old.count store rest (last_loaded old store upto.loaded) (subst (λ (kept : Store). RisesAbove 0 kept) upto.whole upto.order)
+      reads.ok.told tells ∙ ap (selected_entries is_any old.count max) upto.whole
+      ∙ selected_entries-remaining max old.count store rest (last_loaded old store upto.loaded) (subst (λ (kept : Store). RisesAbove 0 kept) upto.whole upto.order)
 
   read_after : after.tells → (store rest : Store) → IsUpTo old before store rest → rest ≡ piece ++ drop max rest
   read_after tells store rest upto = sym (take-append-drop max rest) ∙ ap (λ (front : Store). front ++ drop max rest) (sym (read_told tells store rest upto))
@@ -158,7 +158,7 @@ reads_on-fault max before after old steps_old steps_new fault reads steps = reco
     undamaged keeper_faults.Memory place e = cc
 
 -- nothing is read at first
-pub IsReading-first : (keeper : KeeperState) (state : State) (steps : ℕ) → IsReady true keeper → StandsFor state [] → IsReading keeper keeper state steps steps
+pub IsReading-first : (keeper : KeeperState) (state : State) (steps : ℕ) → IsReady true keeper → Represents state [] → IsReading keeper keeper state steps steps
 IsReading-first keeper state steps ready stands = record {
   read = [];
   hands = record {

@@ -16,11 +16,11 @@ use Rattle.hippo_model_laws.proofs.ValidFronts.{next_number}
 use Rattle.hippo_tables.specs.Standing.{is_delete}
 use Rattle.hippo_keeper.specs.declared.faults.KeeperFault.{KeeperFault}
 use Rattle.hippo_keeper.specs.declared.faults.KeeperFault.TheVariants.{Failed, Memory}
-use Rattle.hippo_keeper.specs.Answering.{has_failed, wants_memory}
+use Rattle.hippo_keeper.specs.Answering.{has_failed, is_out_of_memory}
 use Rattle.hippo_keeper.specs.Keeping.{Store, next_number as next_kept, KeeperState, IsReady, AppendsEntry}
 use Rattle.hippo_typing.specs.Meanings.{meaning}
 use Rattle.hippo_replay.specs.declared.state.State.{State}
-use Rattle.hippo_replay.specs.Standing.{StandsFor, IsSound, MayFollow, IsNext, takes_no_memory, Remembers}
+use Rattle.hippo_replay.specs.Standing.{Represents, IsSound, MayFollow, IsNext, takes_no_memory, Remembers}
 use Rattle.hippo_replay.specs.TakingIn.{HasLoaded}
 use Rattle.hippo_replay.specs.Recording.{MayKeep, MayAppend, KeepsEntry, Records}
 use Rattle.hippo_replay.proofs.KeeperLemmas.{next_kept-stored}
@@ -87,7 +87,7 @@ module _ (entry : Entry) where
   }
 
   -- the entry was stored, and then taken in
-  pub Records-added : (old new : State) (before after : KeeperState) → KeepsEntry entry (well KeeperFault) old before after → ((history : History) → StandsFor old history → may_follow meaning history entry ≡ true → StandsFor new (history ++ entry ∷ [])) → Records entry (well KeeperFault) old new before after
+  pub Records-added : (old new : State) (before after : KeeperState) → KeepsEntry entry (well KeeperFault) old before after → ((history : History) → Represents old history → may_follow meaning history entry ≡ true → Represents new (history ++ entry ∷ [])) → Records entry (well KeeperFault) old new before after
   Records-added old new before after keeps added = record {
     keeps = keeps;
     ok = λ history stands. added history stands (keeps.follows refl history stands);
@@ -99,14 +99,14 @@ module _ (entry : Entry) where
   Records-unkept fault state before after keeps = record { keeps = keeps; ok = tt; memory = λ memory history stands. stands }
 
   -- the entry was not taken in
-  pub Records-short : (old new : State) (keeper : KeeperState) → IsReady true keeper → ((history : History) → StandsFor old history → StandsFor new history) → Records entry short old new keeper keeper
+  pub Records-short : (old new : State) (keeper : KeeperState) → IsReady true keeper → ((history : History) → Represents old history → Represents new history) → Records entry short old new keeper keeper
   Records-short old new keeper ready same = record { keeps = KeepsEntry-short old keeper ready; ok = tt; memory = λ memory. same }
 
   -- the entry was taken in, and then stored or taken back
-  pub Records-kept : (result : Result (Unit {0}) KeeperFault) (old mid new : State) (before after : KeeperState) → KeepsEntry entry result old before after → ((history : History) → StandsFor old history → Remembers mid history entry) → OnOk result (new ≡ mid) → (wants_memory result ≡ true → (history : History) → Remembers mid history entry → StandsFor new history) → Records entry result old new before after
+  pub Records-kept : (result : Result (Unit {0}) KeeperFault) (old mid new : State) (before after : KeeperState) → KeepsEntry entry result old before after → ((history : History) → Represents old history → Remembers mid history entry) → OnOk result (new ≡ mid) → (is_out_of_memory result ≡ true → (history : History) → Remembers mid history entry → Represents new history) → Records entry result old new before after
   Records-kept result old mid new before after keeps remembers kept back = record {
     keeps = keeps;
-    ok = on_ok_weaker result (λ same history stands. subst (λ (state : State). StandsFor state (history ++ entry ∷ [])) (sym same) (remembers history stands).stands) kept;
+    ok = on_ok_weaker result (λ same history stands. subst (λ (state : State). Represents state (history ++ entry ∷ [])) (sym same) (remembers history stands).stands) kept;
     memory = λ memory history stands. back memory history (remembers history stands);
   }
 

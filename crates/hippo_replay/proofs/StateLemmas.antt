@@ -12,34 +12,34 @@ use Rattle.hippo_model.specs.Keepable.{is_keepable}
 use Rattle.hippo_model.specs.Validity.{keeps_order, is_acceptable, may_follow, is_valid}
 use Rattle.hippo_model.proofs.LastWords.{last_word-append}
 use Rattle.hippo_model_laws.proofs.ValidFronts.{is_valid-append, next_number}
-use Rattle.hippo_typing_catalog.specs.Catalogs.{KnownNames, known_at, known_after, creates_anew}
+use Rattle.hippo_typing_catalog.specs.Catalogs.{KnownNames, known_at, known_after, creates_new_names}
 use Rattle.hippo_typing_catalog.specs.NewestNames.{RemembersNames, creates_nothing}
 use Rattle.hippo_policy.specs.declared.book.PolicyBook.{PolicyBook}
-use Rattle.hippo_policy.specs.Books.{BookStandsFor, RemembersMatter, BookAdds, leaves_book}
+use Rattle.hippo_policy.specs.Books.{BookRepresents, RemembersMatter, BookAdds, leaves_book}
 use Rattle.hippo_tables.specs.declared.tables.Tables.{Tables}
 use Rattle.hippo_tables.specs.Standing.{is_delete, leaves_tables, TablesStandFor, TablesAreAsBefore}
 use Rattle.hippo_tables.proofs.NextLemmas.{IsNextAct-valid}
 use Rattle.hippo_typing.specs.Meanings.{meaning}
 use Rattle.hippo_typing.proofs.CatalogTheorem.{names_grow, entries_create_anew}
 use Rattle.hippo_replay.specs.declared.state.State.{State}
-use Rattle.hippo_replay.specs.Standing.{latest_moment, StandsFor, IsNext, takes_no_memory, PartsAdd, Remembers}
+use Rattle.hippo_replay.specs.Standing.{latest_moment, Represents, IsNext, takes_no_memory, PartsAdd, Remembers}
 
 -- the moment of the last entry is the latest
 pub latest_moment-append : (history : History) (entry : Entry) → latest_moment (history ++ entry ∷ []) ≡ entry.moment
 latest_moment-append history entry = ap (λ (word : Option Moment). unwrap_or word first_moment) (last_word-append (λ e. Some e.moment) history entry)
 
 -- an entry that may come next creates only what does not exist yet
-pub creates_anew-next : (state : State) (entry : Entry) → IsNext state entry → creates_anew state.catalog.names entry.act ≡ true
-creates_anew-next state entry next =
-    ap (λ (known : KnownNames). creates_anew known entry.act) next.stands.names ∙ entries_create_anew meaning next.history entry next.stands.valid next.follows
+pub creates_new_names-next : (state : State) (entry : Entry) → IsNext state entry → creates_new_names state.catalog.names entry.act ≡ true
+creates_new_names-next state entry next =
+    ap (λ (known : KnownNames). creates_new_names known entry.act) next.stands.names ∙ entries_create_anew meaning next.history entry next.stands.valid next.follows
 
 module _ (history : History) (entry : Entry) (may : may_follow meaning history entry ≡ true) where
   pub acceptable : is_acceptable meaning history entry.act ≡ true
   acceptable = (and_parts (is_keepable entry && entry.seq == length history + 1 && keeps_order history entry.moment) (is_acceptable meaning history entry.act) may).1
 
   -- with one more entry, the state stands for the history with that entry at its end
-  pub StandsFor-append : (old new : State) → StandsFor old history → PartsAdd old new entry → new.count ≡ entry.seq → new.last ≡ entry.moment → StandsFor new (history ++ entry ∷ [])
-  StandsFor-append old new stands adds count last =
+  pub Represents-append : (old new : State) → Represents old history → PartsAdd old new entry → new.count ≡ entry.seq → new.last ≡ entry.moment → Represents new (history ++ entry ∷ [])
+  Represents-append old new stands adds count last =
       let number : entry.seq ≡ length history + 1 = next_number meaning history entry may in
       record {
         valid = rw (is_valid-append meaning history entry, stands.valid) may;
@@ -51,9 +51,9 @@ module _ (history : History) (entry : Entry) (may : may_follow meaning history e
       }
 
   -- it remembers what it was before
-  pub Remembers-append : (old new : State) → is_delete entry.act ≡ false → StandsFor old history → PartsAdd old new entry → new.count ≡ entry.seq → new.last ≡ entry.moment → new.earlier ≡ old.last → Remembers new history entry
+  pub Remembers-append : (old new : State) → is_delete entry.act ≡ false → Represents old history → PartsAdd old new entry → new.count ≡ entry.seq → new.last ≡ entry.moment → new.earlier ≡ old.last → Remembers new history entry
   Remembers-append old new kept stands adds count last earlier = record {
-    stands = StandsFor-append old new stands adds count last;
+    stands = Represents-append old new stands adds count last;
     names = adds.newest;
     matter = adds.book.remembers;
     rows = adds.tables.remembers kept history (IsNextAct-valid meaning history entry.act stands.valid acceptable) stands.tables;
@@ -61,8 +61,8 @@ module _ (history : History) (entry : Entry) (may : may_follow meaning history e
   }
 
   -- when out of memory, it stands for what it stood for before
-  pub StandsFor-same : (old new : State) → StandsFor old history → new.catalog.names ≡ old.catalog.names → (entry.seq ≡ length history + 1 → BookStandsFor old.book history → BookStandsFor new.book history) → TablesAreAsBefore old.tables new.tables → new.count ≡ old.count → new.last ≡ old.last → StandsFor new history
-  StandsFor-same old new stands names book tables count last = record {
+  pub Represents-same : (old new : State) → Represents old history → new.catalog.names ≡ old.catalog.names → (entry.seq ≡ length history + 1 → BookRepresents old.book history → BookRepresents new.book history) → TablesAreAsBefore old.tables new.tables → new.count ≡ old.count → new.last ≡ old.last → Represents new history
+  Represents-same old new stands names book tables count last = record {
     valid = stands.valid;
     names = names ∙ stands.names;
     book = book (next_number meaning history entry may) stands.book;
@@ -89,15 +89,15 @@ leaves_tables-room (Asked user purpose recipient text) is other = refl
 leaves_tables-room act is other = absurd (false≢true is)
 
 -- a book that has taken in an entry and takes it back
-pub book_again : (old mid new : PolicyBook) (entry : Entry) → BookAdds old mid entry.seq entry.act → ((history : History) (entry : Entry) → RemembersMatter mid entry.act → BookStandsFor mid (history ++ entry ∷ []) → BookStandsFor new history) → (history : History) → entry.seq ≡ length history + 1 → BookStandsFor old history → BookStandsFor new history
+pub book_again : (old mid new : PolicyBook) (entry : Entry) → BookAdds old mid entry.seq entry.act → ((history : History) (entry : Entry) → RemembersMatter mid entry.act → BookRepresents mid (history ++ entry ∷ []) → BookRepresents new history) → (history : History) → entry.seq ≡ length history + 1 → BookRepresents old history → BookRepresents new history
 book_again old mid new entry adds taken history number stands = taken history entry adds.remembers (adds.stands history entry refl refl number stands)
 
 -- a state with its last entry taken back
-pub StandsFor-before : (old new : State) (history : History) (entry : Entry) → Remembers old history entry
+pub Represents-before : (old new : State) (history : History) (entry : Entry) → Remembers old history entry
     → ((known : KnownNames) → RemembersNames old.catalog.newest entry.act → old.catalog.names ≡ known_after known entry.act → new.catalog.names ≡ known)
-    → (RemembersMatter old.book entry.act → BookStandsFor old.book (history ++ entry ∷ []) → BookStandsFor new.book history)
-    → TablesStandFor new.tables history → new.count ≡ old.count - 1 → new.last ≡ old.earlier → StandsFor new history
-StandsFor-before old new history entry knows names book tables count last =
+    → (RemembersMatter old.book entry.act → BookRepresents old.book (history ++ entry ∷ []) → BookRepresents new.book history)
+    → TablesStandFor new.tables history → new.count ≡ old.count - 1 → new.last ≡ old.earlier → Represents new history
+Represents-before old new history entry knows names book tables count last =
     let valid = and_parts (is_valid meaning history) (may_follow meaning history entry) (sym (is_valid-append meaning history entry) ∙ knows.stands.valid) in
     let grown : old.count ≡ length (history ++ entry ∷ []) = knows.stands.count in
     record {
@@ -113,8 +113,8 @@ StandsFor-before old new history entry knows names book tables count last =
 abbrev pub with_tables : State → Tables → State
 with_tables state tables = record { catalog = state.catalog; book = state.book; tables = tables; count = state.count; last = state.last; earlier = state.earlier }
 
-pub StandsFor-with_tables : (state : State) (tables : Tables) (history : History) → TablesAreAsBefore state.tables tables → StandsFor state history → StandsFor (with_tables state tables) history
-StandsFor-with_tables state tables history same stands = record {
+pub Represents-with_tables : (state : State) (tables : Tables) (history : History) → TablesAreAsBefore state.tables tables → Represents state history → Represents (with_tables state tables) history
+Represents-with_tables state tables history same stands = record {
   valid = stands.valid;
   names = stands.names;
   book = stands.book;
@@ -125,7 +125,7 @@ StandsFor-with_tables state tables history same stands = record {
 
 pub Remembers-with_tables : (state : State) (tables : Tables) (history : History) (entry : Entry) → TablesAreAsBefore state.tables tables → Remembers state history entry → Remembers (with_tables state tables) history entry
 Remembers-with_tables state tables history entry same knows = record {
-  stands = StandsFor-with_tables state tables (history ++ entry ∷ []) same knows.stands;
+  stands = Represents-with_tables state tables (history ++ entry ∷ []) same knows.stands;
   names = knows.names;
   matter = knows.matter;
   rows = record { before = λ name. rw (same.same_last, same.kept name) (knows.rows.before name) };

@@ -20,7 +20,7 @@ use Rattle.hippo_typing.specs.Meanings.{meaning}
 use Rattle.hippo_replay.specs.declared.faults.LoadFault.{LoadFault}
 use Rattle.hippo_replay.specs.declared.faults.LoadFault.TheVariants.{Keeper, Damaged}
 use Rattle.hippo_replay.specs.declared.state.State.{State}
-use Rattle.hippo_replay.specs.Standing.{StandsFor, IsSound, IsNext}
+use Rattle.hippo_replay.specs.Standing.{Represents, IsSound, IsNext}
 use Rattle.hippo_replay.specs.TakingIn.{HasLoaded, TakesIn, Follows}
 use Rattle.hippo_tables.proofs.RowLemmas.{drop_at_member}
 use Rattle.hippo_keeper.proofs.Results.{err_of, well}
@@ -62,7 +62,7 @@ loaded_count state store loaded = loaded.stands.count ∙ sym (length-map loaded
 
 -- one more entry
 pub HasLoaded-append : (old new : State) (kept : StoredEntry) (entry : Entry) → HasForm kept entry
-    → ((history : History) → StandsFor old history → (may_follow meaning history entry ≡ true) × StandsFor new (history ++ entry ∷ []))
+    → ((history : History) → Represents old history → (may_follow meaning history entry ≡ true) × Represents new (history ++ entry ∷ []))
     → (store : Store) → HasLoaded old store → HasLoaded new (store ++ kept ∷ [])
 HasLoaded-append old new kept entry form follows store loaded = record {
   history = loaded.history ++ entry ∷ [];
@@ -70,7 +70,7 @@ HasLoaded-append old new kept entry form follows store loaded = record {
   stands = (follows loaded.history loaded.stands).1;
 }
 
-module _ (state : State) (kept : StoredEntry) (never : (entry : Entry) → HasForm kept entry → (history : History) → StandsFor state history → may_follow meaning history entry ≡ false) where
+module _ (state : State) (kept : StoredEntry) (never : (entry : Entry) → HasForm kept entry → (history : History) → Represents state history → may_follow meaning history entry ≡ false) where
   -- no valid history continues this way
   no_longer : (store : Store) → HasLoaded state store → (history : History) → ¬ (IsStoreOf meaning (store ++ kept ∷ []) history)
   no_longer store loaded history longer =
@@ -96,7 +96,7 @@ module _ (state : State) (kept : StoredEntry) (never : (entry : Entry) → HasFo
       }
 
 -- the place, from the number of entries
-pub damaged_next : (state : State) (kept : StoredEntry) → ((entry : Entry) → HasForm kept entry → (history : History) → StandsFor state history → may_follow meaning history entry ≡ false) → (place : ℕ) → ((history : History) → StandsFor state history → place ≡ length history + 1) → (store rest : Store) → HasLoaded state store → IsDamagedAt meaning (store ++ kept ∷ rest) place
+pub damaged_next : (state : State) (kept : StoredEntry) → ((entry : Entry) → HasForm kept entry → (history : History) → Represents state history → may_follow meaning history entry ≡ false) → (place : ℕ) → ((history : History) → Represents state history → place ≡ length history + 1) → (store rest : Store) → HasLoaded state store → IsDamagedAt meaning (store ++ kept ∷ rest) place
 damaged_next state kept never place is store rest loaded =
     let counted : length loaded.history ≡ length store = sym (length-map loaded.history stored) ∙ ap length loaded.forms in
     let there : length store + 1 ≡ place = sym (is loaded.history loaded.stands ∙ ap (λ n. n + 1) counted) in
@@ -165,7 +165,7 @@ none_taken {A = A} kept fault state found told = record {
 }
 
 -- an entry that may not follow is damaged
-pub not_followed : {A : Type 0} (entry : Entry) (fault : LoadFault) (state : State) → ((history : History) → StandsFor state history → false ≡ may_follow meaning history entry) → fault ≡ Damaged (state.count + 1) → Follows {A = A} entry (Err fault) state state
+pub not_followed : {A : Type 0} (entry : Entry) (fault : LoadFault) (state : State) → ((history : History) → Represents state history → false ≡ may_follow meaning history entry) → fault ≡ Damaged (state.count + 1) → Follows {A = A} entry (Err fault) state state
 not_followed {A = A} entry fault state never told = record {
   ok = tt;
   damaged = λ place is history stands. (sym (never history stands), damage_place {A = A} fault state.count place told is ∙ ap (λ n. n + 1) stands.count);
@@ -173,7 +173,7 @@ not_followed {A = A} entry fault state never told = record {
 }
 
 -- an entry that may follow is taken in
-pub followed : (entry : Entry) (old new : State) → ((history : History) → StandsFor old history → true ≡ may_follow meaning history entry) → ((history : History) → StandsFor old history → may_follow meaning history entry ≡ true → StandsFor new (history ++ entry ∷ [])) → Follows entry (well LoadFault) old new
+pub followed : (entry : Entry) (old new : State) → ((history : History) → Represents old history → true ≡ may_follow meaning history entry) → ((history : History) → Represents old history → may_follow meaning history entry ≡ true → Represents new (history ++ entry ∷ [])) → Follows entry (well LoadFault) old new
 followed entry old new may adds = record {
   ok = λ history stands. (sym (may history stands), adds history stands (sym (may history stands)));
   damaged = λ place is. absurd cc;
@@ -181,7 +181,7 @@ followed entry old new may adds = record {
 }
 
 -- the history that an entry may follow next
-pub IsNext-here : (state : State) (entry : Entry) → IsSound state → ((history : History) → StandsFor state history → true ≡ may_follow meaning history entry) → IsNext state entry
+pub IsNext-here : (state : State) (entry : Entry) → IsSound state → ((history : History) → Represents state history → true ≡ may_follow meaning history entry) → IsNext state entry
 IsNext-here state entry sound may = record { history = sound.history; stands = sound.stands; follows = sym (may sound.history sound.stands) }
 
 -- an entry and its form have the same number

@@ -6,14 +6,14 @@ use Rattle.hippo_model.specs.Stores.{IsStoreOf, IsDamagedAt}
 use Rattle.hippo_model.specs.Versions.{versions}
 use Rattle.hippo_keeper.specs.declared.faults.KeeperFault.{KeeperFault}
 use Rattle.hippo_keeper.specs.declared.faults.KeeperFault.TheVariants as keeper_faults
-use Rattle.hippo_keeper.specs.Answering.{wants_memory}
+use Rattle.hippo_keeper.specs.Answering.{is_out_of_memory}
 use Rattle.hippo_keeper.specs.Keeping.{Store, Survivors, RisesAbove, KeeperState, IsAfterCall}
 use Rattle.hippo_keeper.specs.Selecting.{stored_versions}
 use Rattle.hippo_typing.specs.Meanings.{meaning}
 use Rattle.hippo_replay.specs.declared.faults.LoadFault.{LoadFault}
 use Rattle.hippo_replay.specs.declared.faults.LoadFault.TheVariants.{Keeper, Damaged, Memory}
 use Rattle.hippo_replay.specs.declared.state.State.{State}
-use Rattle.hippo_replay.specs.Standing.{StandsFor}
+use Rattle.hippo_replay.specs.Standing.{Represents}
 
 -- a load as one call of its keeper
 abbrev pub load_as_call : {A : Type 0} → Result A LoadFault → Result (Unit {0}) KeeperFault
@@ -42,7 +42,7 @@ pub record KeepsFound (finds : Survivors) (keeper : KeeperState) : Type 0 where
 pub record IsLoaded (state : State) (keeper : KeeperState) (steps_before steps_after : ℕ)
     : Type 0 where
   pub history : History
-  pub stands : StandsFor state history
+  pub stands : Represents state history
   pub told : keeper.tells → map stored history ≡ keeper.kept
   pub only : keeper.tells → (other : History) → IsStoreOf meaning keeper.kept other
       → other ≡ history
@@ -53,7 +53,7 @@ pub record Loads (name : List ℕ) (result : Result State LoadFault) (before aft
     (steps_before steps_after : ℕ) : Type 0 where
   -- only running out of memory at the start closes the keeper, and only a keeper's fault leaves it
   -- spent
-  pub call : IsAfterCall after.started (not after.started && wants_memory (load_as_call result))
+  pub call : IsAfterCall after.started (not after.started && is_out_of_memory (load_as_call result))
       (load_as_call result)
       before after
   pub started : judges result ≡ true → after.started ≡ true

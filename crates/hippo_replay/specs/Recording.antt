@@ -6,11 +6,11 @@ use Rattle.hippo_model.specs.Keepable.{is_keepable}
 use Rattle.hippo_model.specs.StoredForms.{stored}
 use Rattle.hippo_model.specs.Validity.{may_follow}
 use Rattle.hippo_keeper.specs.declared.faults.KeeperFault.{KeeperFault}
-use Rattle.hippo_keeper.specs.Answering.{has_failed, wants_memory}
+use Rattle.hippo_keeper.specs.Answering.{has_failed, is_out_of_memory}
 use Rattle.hippo_keeper.specs.Keeping.{KeeperState, IsReady, next_number, IsAfterCall, OnlySurvives, MayHaveOneMore, KeepsSame}
 use Rattle.hippo_typing.specs.Meanings.{meaning}
 use Rattle.hippo_replay.specs.declared.state.State.{State}
-use Rattle.hippo_replay.specs.Standing.{StandsFor, IsSound, MayFollow}
+use Rattle.hippo_replay.specs.Standing.{Represents, IsSound, MayFollow}
 use Rattle.hippo_replay.specs.TakingIn.{HasLoaded}
 
 -- the state stands for some history; its keeper is started and neither spent nor closed; and if the
@@ -45,18 +45,18 @@ HasKept (entry ∷ entries) before after =
 pub record KeepsEntry {A : Type 0} (entry : Entry) (result : Result A KeeperFault) (state : State)
     (before after : KeeperState) : Type 0 where
   pub call : IsAfterCall true false result before after
-  pub follows : wants_memory result ≡ false → (history : History) → StandsFor state history
+  pub follows : is_out_of_memory result ≡ false → (history : History) → Represents state history
       → may_follow meaning history entry ≡ true
   pub kept : OnOk result (after.tells → HasKept (entry ∷ []) before after)
   pub failed : has_failed result ≡ true → after.tells → MayHaveOneMore (stored entry) before after
-  pub same : wants_memory result ≡ true → after.tells → KeepsSame before after
+  pub same : is_out_of_memory result ≡ true → after.tells → KeepsSame before after
 
 -- the entry is stored, and the state stands for the history with this entry at its end; when out of
 -- memory, the state stands for what it stood for before
 pub record Records {A : Type 0} (entry : Entry) (result : Result A KeeperFault) (old new : State)
     (before after : KeeperState) : Type 0 where
   pub keeps : KeepsEntry entry result old before after
-  pub ok : OnOk result ((history : History) → StandsFor old history
-      → StandsFor new (history ++ entry ∷ []))
-  pub memory : wants_memory result ≡ true → (history : History) → StandsFor old history
-      → StandsFor new history
+  pub ok : OnOk result ((history : History) → Represents old history
+      → Represents new (history ++ entry ∷ []))
+  pub memory : is_out_of_memory result ≡ true → (history : History) → Represents old history
+      → Represents new history

@@ -10,7 +10,7 @@ use Rattle.hippo_model.specs.Histories.{last_word}
 use Rattle.hippo_model.specs.Validity.{may_follow, is_valid}
 use Rattle.hippo_typing_catalog.specs.Catalogs.{known_at, known_after}
 use Rattle.hippo_typing_catalog.specs.NewestNames.{RemembersNames}
-use Rattle.hippo_policy.specs.Books.{BookStandsFor, RemembersMatter, BookAdds}
+use Rattle.hippo_policy.specs.Books.{BookRepresents, RemembersMatter, BookAdds}
 use Rattle.hippo_tables.specs.Standing.{TablesStandFor, RemembersTables as RemembersRows, TablesAdd}
 use Rattle.hippo_typing.specs.Meanings.{meaning}
 use Rattle.hippo_replay.specs.declared.state.State.{State}
@@ -21,10 +21,10 @@ latest_moment history = unwrap_or (last_word (λ entry. Some entry.moment) histo
 
 -- the history is valid, and the state holds its contents: its names, its rules, its rows, the
 -- number of its entries, and the moment of the last one
-pub record StandsFor (state : State) (history : History) : Type 0 where
+pub record Represents (state : State) (history : History) : Type 0 where
   pub valid : is_valid meaning history ≡ true
   pub names : state.catalog.names ≡ known_at history
-  pub book : BookStandsFor state.book history
+  pub book : BookRepresents state.book history
   pub tables : TablesStandFor state.tables history
   pub count : state.count ≡ length history
   pub last : state.last ≡ latest_moment history
@@ -32,12 +32,12 @@ pub record StandsFor (state : State) (history : History) : Type 0 where
 -- there is a history for which the state stands
 pub record IsSound (state : State) : Type 0 where
   pub history : History
-  pub stands : StandsFor state history
+  pub stands : Represents state history
 
 -- an entry may follow each history for which the state stands
 abbrev pub MayFollow : State → Entry → Type 0
 MayFollow state entry =
-    (history : History) → StandsFor state history → may_follow meaning history entry ≡ true
+    (history : History) → Represents state history → may_follow meaning history entry ≡ true
 
 -- a moment is not earlier than that of the last entry
 abbrev pub IsTimely : State → Moment → Type 0
@@ -46,7 +46,7 @@ IsTimely state moment = int_le state.last moment ≡ true
 -- there is a history for which the state stands, and this entry may follow it
 pub record IsNext (state : State) (entry : Entry) : Type 0 where
   pub history : History
-  pub stands : StandsFor state history
+  pub stands : Represents state history
   pub follows : may_follow meaning history entry ≡ true
 
 -- whether a state takes in an act without allocating memory: a Delete, or a question
@@ -65,7 +65,7 @@ pub record PartsAdd (old new : State) (entry : Entry) : Type 0 where
 -- the state stands for a history with this entry at its end, and remembers what it was before that
 -- entry
 pub record Remembers (state : State) (history : History) (entry : Entry) : Type 0 where
-  pub stands : StandsFor state (history ++ entry ∷ [])
+  pub stands : Represents state (history ++ entry ∷ [])
   pub names : RemembersNames state.catalog.newest entry.act
   pub matter : RemembersMatter state.book entry.act
   pub rows : RemembersRows state.tables history

@@ -10,13 +10,13 @@ use Rattle.hippo_typing.specs.Meanings.{meaning}
 use Rattle.hippo_replay.specs.declared.faults.LoadFault.{LoadFault}
 use Rattle.hippo_replay.specs.declared.faults.LoadFault.TheVariants.{Keeper, Damaged}
 use Rattle.hippo_replay.specs.declared.state.State.{State}
-use Rattle.hippo_replay.specs.Standing.{StandsFor}
+use Rattle.hippo_replay.specs.Standing.{Represents}
 
 -- a state stands for a history with these stored forms
 pub record HasLoaded (state : State) (store : Store) : Type 0 where
   pub history : History
   pub forms : map stored history ≡ store
-  pub stands : StandsFor state history
+  pub stands : Represents state history
 
 -- stored entries are taken in after the ones so far; or the whole list is damaged at a place,
 -- whatever follows
@@ -31,9 +31,9 @@ pub record TakesIn {A : Type 0} (piece : Store) (result : Result A LoadFault) (o
 -- an entry is taken in after the ones so far, or may not follow them
 pub record Follows {A : Type 0} (entry : Entry) (result : Result A LoadFault) (old new : State)
     : Type 0 where
-  pub ok : OnOk result ((history : History) → StandsFor old history
-      → (may_follow meaning history entry ≡ true) × StandsFor new (history ++ entry ∷ []))
+  pub ok : OnOk result ((history : History) → Represents old history
+      → (may_follow meaning history entry ≡ true) × Represents new (history ++ entry ∷ []))
   pub damaged : (place : ℕ) → result ≡ Err (Damaged place) → (history : History)
-      → StandsFor old history
+      → Represents old history
       → (may_follow meaning history entry ≡ false) × (place ≡ length history + 1)
   pub unfailed : result ≢ Err Keeper

@@ -12,7 +12,7 @@ ghost use Rattle.hippo_model.specs.Versions.{is_live};
 ghost use Rattle.hippo_model.specs.Validity.{is_purpose, is_recipient, pair_exists, create_fits, has_columns, table_passes, has_subject, item_fits, is_table_version, is_authorized, is_acceptable, keeps_order, may_follow};
 ghost use Rattle.hippo_typing_catalog.specs.Catalogs.{table_of};
 ghost use Rattle.hippo_typing.specs.Meanings.{meaning};
-ghost use Rattle.hippo_replay.specs.Standing.{StandsFor};
+ghost use Rattle.hippo_replay.specs.Standing.{Represents};
 ghost use Rattle.hippo_replay.specs.NamedPairs.{named_pair_exists};
 
 use crate::schemas::{days_fit, has_columns, is_well_formed};
@@ -41,35 +41,35 @@ fn may_make(catalog: &Catalog, name: &Name) -> bool
 
 impl State {
     fn has_purpose(&self, purpose: &Name) -> bool
-        ensures { (history : History) → StandsFor self.now history
+        ensures { (history : History) → Represents self.now history
             → result ≡ is_purpose history purpose.now }
     {
         self.catalog.has_purpose(purpose)
     }
 
     fn has_recipient(&self, recipient: &Name) -> bool
-        ensures { (history : History) → StandsFor self.now history
+        ensures { (history : History) → Represents self.now history
             → result ≡ is_recipient history recipient.now }
     {
         self.catalog.has_recipient(recipient)
     }
 
     fn has_item(&self, item: &Name) -> bool
-        ensures { (history : History) → StandsFor self.now history
+        ensures { (history : History) → Represents self.now history
             → result ≡ is_some (item_at history item.now) }
     {
         self.catalog.item(item).is_some()
     }
 
     fn has_pair(&self, purpose: &Name, recipient: &Name) -> bool
-        ensures { (history : History) → StandsFor self.now history
+        ensures { (history : History) → Represents self.now history
             → result ≡ pair_exists history purpose.now recipient.now }
     {
         self.has_purpose(purpose) && self.has_recipient(recipient)
     }
 
     fn may_create(&self, schema: &Schema) -> bool
-        ensures { (history : History) → StandsFor self.now history
+        ensures { (history : History) → Represents self.now history
             → result ≡ create_fits history schema.now }
     {
         may_make(&self.catalog, &schema.name) && is_well_formed(schema)
@@ -77,7 +77,7 @@ impl State {
 
     // Whether the table has a row with the same key as this one.
     fn is_live_like(&self, table: &Name, row: &Cells) -> bool
-        ensures { (history : History) (schema : TableSchema) → StandsFor self.now history
+        ensures { (history : History) (schema : TableSchema) → Represents self.now history
             → schema_at history table.now ≡ Some schema
             → result ≡ is_live schema history (key_of schema.key row.now) }
     {
@@ -89,14 +89,14 @@ impl State {
 
     // Whether the table has a row with this key.
     fn is_live_key(&self, table: &Name, key: &Cells) -> bool
-        ensures { (history : History) (schema : TableSchema) → StandsFor self.now history
+        ensures { (history : History) (schema : TableSchema) → Represents self.now history
             → schema_at history table.now ≡ Some schema → result ≡ is_live schema history key.now }
     {
         self.tables.row(table, key).is_some()
     }
 
     fn may_insert(&self, table: &Name, row: &Cells) -> bool
-        ensures { (history : History) → StandsFor self.now history
+        ensures { (history : History) → Represents self.now history
             → result ≡ is_table_version history table.now (Insert table.now row.now) }
     {
         match self.tables.schema(table) {
@@ -106,7 +106,7 @@ impl State {
     }
 
     fn may_update(&self, table: &Name, row: &Cells) -> bool
-        ensures { (history : History) → StandsFor self.now history
+        ensures { (history : History) → Represents self.now history
             → result ≡ is_table_version history table.now (Update table.now row.now) }
     {
         match self.tables.schema(table) {
@@ -116,7 +116,7 @@ impl State {
     }
 
     fn may_delete(&self, table: &Name, key: &Cells) -> bool
-        ensures { (history : History) → StandsFor self.now history
+        ensures { (history : History) → Represents self.now history
             → result ≡ is_table_version history table.now (Delete table.now key.now) }
     {
         match self.tables.schema(table) {
@@ -127,7 +127,7 @@ impl State {
 
     // Whether the table has these columns.
     fn has_columns(&self, table: &Name, columns: &Places) -> bool
-        ensures { (history : History) → StandsFor self.now history
+        ensures { (history : History) → Represents self.now history
             → result ≡ table_passes history (has_columns columns.now) table.now }
     {
         match self.tables.schema(table) {
@@ -137,7 +137,7 @@ impl State {
     }
 
     fn has_subject(&self, table: &Name) -> bool
-        ensures { (history : History) → StandsFor self.now history
+        ensures { (history : History) → Represents self.now history
             → result ≡ table_passes history has_subject table.now }
     {
         match self.tables.schema(table) {
@@ -148,7 +148,7 @@ impl State {
 
     // Whether the purpose and the recipient that a grant or a rule names exist.
     fn has_named_pair(&self, act: &Act) -> bool
-        ensures { (history : History) → StandsFor self.now history
+        ensures { (history : History) → Represents self.now history
             → result ≡ named_pair_exists history act.now }
     {
         match act {
@@ -178,7 +178,7 @@ impl State {
 
     // Whether a rule's purpose, recipient, table and columns exist.
     fn may_rule(&self, rule: &Act, table: &Name, columns: &Places) -> bool
-        ensures { (history : History) → StandsFor self.now history → result
+        ensures { (history : History) → Represents self.now history → result
             ≡ (named_pair_exists history rule.now
             && table_passes history (has_columns columns.now) table.now) }
     {
@@ -187,7 +187,7 @@ impl State {
 
     // Whether a rule's item, if it has one, exists and suits the table.
     fn item_fits(&self, table: &Name, item: &Option<Name>) -> bool
-        ensures { (history : History) → StandsFor self.now history
+        ensures { (history : History) → Represents self.now history
             → result ≡ item_fits history table.now item.now }
     {
         match item {
@@ -197,7 +197,7 @@ impl State {
     }
 
     fn is_authorized(&self, user: &Name, purpose: &Name, recipient: &Name) -> bool
-        ensures { (history : History) → StandsFor self.now history
+        ensures { (history : History) → Represents self.now history
             → result ≡ is_authorized (authorized_at history user.now purpose.now recipient.now) }
     {
         let word = self
@@ -208,7 +208,7 @@ impl State {
 
     // Whether the text has a meaning, that is, a query.
     fn has_meaning(&self, alloc: Global, text: &Txt) -> Result<bool, Memory>
-        ensures { (history : History) → StandsFor self.now history
+        ensures { (history : History) → Represents self.now history
             → IfOk result (λ means. means ≡ is_some (meaning history text.now)) }
     {
         Ok(was_found(read_meaning(alloc, &self.catalog, text.as_str())?))
@@ -222,7 +222,7 @@ impl State {
         recipient: &Name,
         text: &Txt,
     ) -> Result<bool, Memory>
-        ensures { (history : History) → StandsFor self.now history
+        ensures { (history : History) → Represents self.now history
             → IfOk result (λ accepted. accepted
             ≡ is_acceptable meaning history (Asked user.now purpose.now recipient.now text.now)) }
     {
@@ -234,7 +234,7 @@ impl State {
 
     // Whether an act may come next.
     fn accepts_act(&self, alloc: Global, act: &Act) -> Result<bool, Memory>
-        ensures { (history : History) → StandsFor self.now history
+        ensures { (history : History) → Represents self.now history
             → IfOk result (λ accepted. accepted ≡ is_acceptable meaning history act.now) }
     {
         match act {
@@ -271,7 +271,7 @@ impl State {
 
     // Whether this is the number of the next entry.
     fn is_next_number(&self, number: u64) -> bool
-        ensures { (history : History) → StandsFor self.now history
+        ensures { (history : History) → Represents self.now history
             → result ≡ (number == length history + 1) }
     {
         number > self.count && number - self.count == 1
@@ -279,7 +279,7 @@ impl State {
 
     // Whether a moment is not earlier than that of the last entry.
     fn keeps_order(&self, moment: &Moment) -> bool
-        ensures { (history : History) → StandsFor self.now history
+        ensures { (history : History) → Represents self.now history
             → result ≡ keeps_order history moment.now }
     {
         self.last.seconds() <= moment.seconds()
@@ -290,7 +290,7 @@ impl State {
     /// running out of memory.
     pub fn accepts(&self, alloc: Global, entry: &Entry) -> Result<bool, Memory>
         requires keepable { is_keepable entry.now ≡ true }
-        ensures { (history : History) → StandsFor self.now history
+        ensures { (history : History) → Represents self.now history
             → IfOk result (λ accepted. accepted ≡ may_follow meaning history entry.now) }
     {
         if !self.is_next_number(entry.seq) || !self.keeps_order(&entry.moment) {

@@ -1,7 +1,7 @@
 //! Loading a stored history from its keeper, piece by piece.
 ghost use Rattle.std.specs.Prelude.{◌≡◌, true, false, [], IfOk};
 ghost use Rattle.hippo_keeper.specs.Keeping.{RisesAbove, IsReady};
-ghost use Rattle.hippo_replay.specs.Standing.{StandsFor, IsSound};
+ghost use Rattle.hippo_replay.specs.Standing.{Represents, IsSound};
 ghost use Rattle.hippo_replay.specs.Loading.{Loads};
 ghost use Rattle.hippo_replay.specs.Reading.{load_fault, ReadsPiece, ReadsAllKept};
 
@@ -56,7 +56,7 @@ fn read_all<P: Keeper, L: Ledger>(
 ) -> Result<(), LoadFault>
     requires ready { IsReady true (P.state keeper.old) }
     requires order { (P.state keeper.old).tells → RisesAbove 0 (P.state keeper.old).kept }
-    requires empty { StandsFor state.old [] }
+    requires empty { Represents state.old [] }
     ensures reads { ReadsAllKept result (P.state keeper.old) (P.state keeper.new) state.new
         steps.old steps.new }
 {

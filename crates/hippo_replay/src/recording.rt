@@ -2,10 +2,10 @@
 ghost use Rattle.std.specs.Prelude.{◌≡◌, true, false, [], ◌∷◌, ◌++◌, OnOk};
 ghost use Rattle.hippo_model.specs.Terms.{History};
 ghost use Rattle.hippo_model.specs.Validity.{may_follow};
-ghost use Rattle.hippo_keeper.specs.Answering.{has_failed, wants_memory};
+ghost use Rattle.hippo_keeper.specs.Answering.{has_failed, is_out_of_memory};
 ghost use Rattle.hippo_typing.specs.Meanings.{meaning};
 ghost use Rattle.hippo_replay.specs.declared.state.State.{State as StateOf};
-ghost use Rattle.hippo_replay.specs.Standing.{StandsFor, IsSound, MayFollow, IsNext, takes_no_memory, Remembers};
+ghost use Rattle.hippo_replay.specs.Standing.{Represents, IsSound, MayFollow, IsNext, takes_no_memory, Remembers};
 ghost use Rattle.hippo_replay.specs.Recording.{MayKeep, MayAppend, KeepsEntry, Records};
 
 use crate::state::State;
@@ -59,9 +59,9 @@ impl State {
     fn add_at_once(&mut self, alloc: Global, entry: &Entry)
         requires next { IsNext self.old entry.now }
         requires room { takes_no_memory entry.now.act ≡ true }
-        ensures stands { (history : History) → StandsFor self.old history
+        ensures stands { (history : History) → Represents self.old history
             → may_follow meaning history entry.now ≡ true
-            → StandsFor self.new (history ++ entry.now ∷ []) }
+            → Represents self.new (history ++ entry.now ∷ []) }
     {
         self.add(alloc, entry).unwrap();
     }
@@ -77,9 +77,9 @@ impl State {
         ensures keeps { (state : StateOf) → MayFollow state entry.now
             → KeepsEntry entry.now result state (P.state keeper.old) (P.state keeper.new) }
         ensures ok { OnOk result (self.new ≡ self.old) }
-        ensures memory { wants_memory result ≡ true → (history : History)
+        ensures memory { is_out_of_memory result ≡ true → (history : History)
             → Remembers self.old history entry.now
-            → StandsFor self.new history }
+            → Represents self.new history }
     {
         match append(alloc, keeper, entry) {
             Ok(()) => Ok(()),

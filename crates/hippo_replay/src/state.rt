@@ -4,10 +4,10 @@ ghost use Rattle.hippo_values.specs.Moments.{first_moment};
 ghost use Rattle.hippo_model.specs.Terms.{History};
 ghost use Rattle.hippo_model.specs.declared.entry.Entry.{Entry as HistoryEntry};
 ghost use Rattle.hippo_model.specs.Validity.{may_follow};
-ghost use Rattle.hippo_policy.specs.Books.{BookStandsFor, BookAdds};
+ghost use Rattle.hippo_policy.specs.Books.{BookRepresents, BookAdds};
 ghost use Rattle.hippo_tables.specs.Standing.{is_delete, TablesAdd, TablesAreAsBefore};
 ghost use Rattle.hippo_typing.specs.Meanings.{meaning};
-ghost use Rattle.hippo_replay.specs.Standing.{StandsFor, IsNext, takes_no_memory, PartsAdd, Remembers};
+ghost use Rattle.hippo_replay.specs.Standing.{Represents, IsNext, takes_no_memory, PartsAdd, Remembers};
 
 use hippo_model::{Entry, Query};
 use hippo_policy::PolicyBook;
@@ -47,7 +47,7 @@ fn add_to_both(
     ensures book { OnOk result (BookAdds book.old book.new entry.now.seq entry.now.act) }
     ensures tables { OnOk result (TablesAdd tables.old tables.new entry.now) }
     ensures same_book { OnErr result ((history : History) → entry.now.seq ≡ length history + 1
-        → BookStandsFor book.old history → BookStandsFor book.new history) }
+        → BookRepresents book.old history → BookRepresents book.new history) }
     ensures same_tables { OnErr result (TablesAreAsBefore tables.old tables.new) }
     ensures room { takes_no_memory entry.now.act ≡ true → IsOk result }
 {
@@ -64,7 +64,7 @@ fn add_to_both(
 impl State {
     /// The state of the empty history. Allocates nothing.
     pub fn new(alloc: Global) -> State
-        ensures { StandsFor result [] }
+        ensures { Represents result [] }
     {
         let catalog = Catalog::new(alloc);
         let book = PolicyBook::new(alloc);
@@ -84,8 +84,8 @@ impl State {
     /// compares with `=`. The query can then find rows by binary search. The history that the state
     /// stands for is unchanged.
     pub fn order_for(&mut self, alloc: Global, query: &Query)
-        ensures stands { (history : History) → StandsFor self.old history
-            → StandsFor self.new history }
+        ensures stands { (history : History) → Represents self.old history
+            → Represents self.new history }
         ensures tables { TablesAreAsBefore self.old.tables self.new.tables }
         ensures remembers { (history : History) (entry : HistoryEntry)
             → Remembers self.old history entry
@@ -99,8 +99,8 @@ impl State {
         requires next { IsNext self.old entry.now }
         ensures ok { OnOk result (PartsAdd self.old self.new entry.now) }
         ensures last { OnOk result (self.new.last ≡ self.old.last) }
-        ensures err { OnErr result ((history : History) → StandsFor self.old history
-            → may_follow meaning history entry.now ≡ true → StandsFor self.new history) }
+        ensures err { OnErr result ((history : History) → Represents self.old history
+            → may_follow meaning history entry.now ≡ true → Represents self.new history) }
         ensures room { takes_no_memory entry.now.act ≡ true → IsOk result }
     {
         self.catalog.add(alloc, entry)?;
@@ -118,15 +118,15 @@ impl State {
     /// question never runs out of memory.
     pub fn add(&mut self, alloc: Global, entry: &Entry) -> Result<(), Memory>
         requires next { IsNext self.old entry.now }
-        ensures stands { OnOk result ((history : History) → StandsFor self.old history
+        ensures stands { OnOk result ((history : History) → Represents self.old history
             → may_follow meaning history entry.now ≡ true
-            → StandsFor self.new (history ++ entry.now ∷ [])) }
+            → Represents self.new (history ++ entry.now ∷ [])) }
         ensures remembers { OnOk result (is_delete entry.now.act ≡ false
-            → (history : History) → StandsFor self.old history
+            → (history : History) → Represents self.old history
             → may_follow meaning history entry.now ≡ true → Remembers self.new history entry.now) }
         ensures count { OnOk result (self.new.count ≡ entry.now.seq) }
-        ensures err { OnErr result ((history : History) → StandsFor self.old history
-            → may_follow meaning history entry.now ≡ true → StandsFor self.new history) }
+        ensures err { OnErr result ((history : History) → Represents self.old history
+            → may_follow meaning history entry.now ≡ true → Represents self.new history) }
         ensures room { takes_no_memory entry.now.act ≡ true → IsOk result }
     {
         self.add_to_parts(alloc, entry)?;
@@ -140,7 +140,7 @@ impl State {
     /// for the history before that entry. Allocates nothing.
     pub fn take_back(&mut self)
         ensures { (history : History) (entry : HistoryEntry) → Remembers self.old history entry
-            → StandsFor self.new history }
+            → Represents self.new history }
     {
         self.catalog.take_back();
         self.book.take_back();

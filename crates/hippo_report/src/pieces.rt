@@ -2,13 +2,13 @@
 ghost use Rattle.std.specs.Prelude.{◌≡◌, ◌+◌, ◌≤◌, length, map, IsOk};
 ghost use Rattle.std.specs.Str.{IsAscii};
 ghost use Rattle.std.specs.List.{concat};
-ghost use Rattle.hippo_values_text.specs.Printing.{AddsText};
+ghost use Rattle.hippo_values_text.specs.Printing.{AppendsText};
 ghost use Rattle.hippo_report.specs.Adding.{AddsWithin};
 
 use hippo_values::{Memory, RoomyTxt};
 
 fn append_each<const ROOM: usize>(pieces: &[&str], out: &mut RoomyTxt<ROOM>) -> Result<(), Memory>
-    ensures adds { AddsText (concat (map (λ piece. piece.now) pieces.now)) result out.old out.new }
+    ensures adds { AppendsText (concat (map (λ piece. piece.now) pieces.now)) result out.old out.new }
     ensures room { length out.old + length (concat (map (λ piece. piece.now) pieces.now)) ≤ ROOM
         → IsOk result }
 {

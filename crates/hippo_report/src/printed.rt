@@ -1,6 +1,6 @@
 //! The printed form of values, cells and shared rows in replies.
 ghost use Rattle.std.specs.Prelude.{◌++◌, flat_map, decimal, codes};
-ghost use Rattle.hippo_values_text.specs.Printing.{value_text, AddsText};
+ghost use Rattle.hippo_values_text.specs.Printing.{value_text, AppendsText};
 ghost use Rattle.hippo_report.specs.Adding.{AddsWhole};
 ghost use Rattle.hippo_report.specs.Cells.{separated_text, cell_text, keyed_text, shared_text};
 
@@ -18,7 +18,7 @@ pub trait Printed<const ROOM: usize> {
 
     /// Appends the printed form. When out of memory, part of it may have been appended.
     fn print(&self, out: &mut RoomyTxt<ROOM>) -> Result<(), Memory>
-        ensures adds { AddsText (text self.now) result out.old out.new };
+        ensures adds { AppendsText (text self.now) result out.old out.new };
 }
 
 impl<const ROOM: usize> Printed<ROOM> for Value {
@@ -31,7 +31,7 @@ impl<const ROOM: usize> Printed<ROOM> for Value {
 }
 
 fn append_denied<const ROOM: usize>(rule: u64, out: &mut RoomyTxt<ROOM>) -> Result<(), Memory>
-    ensures adds { AddsText (codes "DENIED(" ++ (decimal rule ++ codes ")"))
+    ensures adds { AppendsText (codes "DENIED(" ++ (decimal rule ++ codes ")"))
         result out.old out.new }
 {
     out.append("DENIED(")?;
@@ -73,7 +73,7 @@ pub fn append_later<const ROOM: usize, T: Printed<ROOM>>(
     rest: &[T],
     out: &mut RoomyTxt<ROOM>,
 ) -> Result<(), Memory>
-    ensures adds { AddsText (flat_map (λ member. separator.now ++ T.text member) rest.now)
+    ensures adds { AppendsText (flat_map (λ member. separator.now ++ T.text member) rest.now)
         result out.old out.new }
 {
     for member in rest {
@@ -90,7 +90,7 @@ pub fn append_joined<const ROOM: usize, T: Printed<ROOM>>(
     members: &[T],
     out: &mut RoomyTxt<ROOM>,
 ) -> Result<(), Memory>
-    ensures adds { AddsText (separated_text T.text separator.now members.now)
+    ensures adds { AppendsText (separated_text T.text separator.now members.now)
         result out.old out.new }
 {
     if members.is_empty() {
@@ -107,7 +107,7 @@ pub fn append_keyed<const ROOM: usize>(
     key: &Cells,
     out: &mut RoomyTxt<ROOM>,
 ) -> Result<(), Memory>
-    ensures adds { AddsText (keyed_text table.now key.now) result out.old out.new }
+    ensures adds { AppendsText (keyed_text table.now key.now) result out.old out.new }
 {
     out.append(table.as_str())?;
     out.append("(")?;

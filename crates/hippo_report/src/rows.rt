@@ -1,6 +1,6 @@
 //! Rows of answers, and denied cells.
 ghost use Rattle.std.specs.Prelude.{flat_map};
-ghost use Rattle.hippo_values_text.specs.Printing.{AddsText};
+ghost use Rattle.hippo_values_text.specs.Printing.{AppendsText};
 ghost use Rattle.hippo_report.specs.Adding.{AddsWhole};
 ghost use Rattle.hippo_report.specs.Cells.{answer_line, denied_line};
 
@@ -48,7 +48,7 @@ fn append_answers<const ROOM: usize>(
     rows: &[CellRow],
     out: &mut RoomyTxt<ROOM>,
 ) -> Result<(), Memory>
-    ensures adds { AddsText (flat_map (answer_line session) rows.now) result out.old out.new }
+    ensures adds { AppendsText (flat_map (answer_line session) rows.now) result out.old out.new }
 {
     for row in rows {
         answer_line(session, row, out)?;

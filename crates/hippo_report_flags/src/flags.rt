@@ -2,7 +2,7 @@
 ghost use Rattle.std.specs.Prelude.{◌≡◌, ◌++◌, codes, OnOk, OnErr};
 ghost use Rattle.csv.specs.Writing.{default_writer, row_text};
 ghost use Rattle.serde_json.specs.Written.{compact_text};
-ghost use Rattle.hippo_values_text.specs.Printing.{AddsText, KeepsFront};
+ghost use Rattle.hippo_values_text.specs.Printing.{AppendsText, KeepsFront};
 ghost use Rattle.hippo_report.specs.Adding.{AddsWhole};
 ghost use Rattle.hippo_report_flags.specs.Flags.{question_text, flag_text, flag_data, flag_fields, flag_line};
 
@@ -39,7 +39,7 @@ fn append_question<const ROOM: usize>(
     dated: &DatedFlag<'_>,
     out: &mut RoomyTxt<ROOM>,
 ) -> Result<(), Memory>
-    ensures adds { AddsText (question_text dated.now) result out.old out.new }
+    ensures adds { AppendsText (question_text dated.now) result out.old out.new }
 {
     append_pieces(
         &[
@@ -61,7 +61,7 @@ fn append_text<const ROOM: usize>(
     dated: &DatedFlag<'_>,
     out: &mut RoomyTxt<ROOM>,
 ) -> Result<(), Memory>
-    ensures adds { AddsText (flag_text dated.now) result out.old out.new }
+    ensures adds { AppendsText (flag_text dated.now) result out.old out.new }
 {
     append_question(dated, out)?;
     append_later(" ", dated.flag.shared.as_slice(), out)?;
@@ -73,7 +73,7 @@ fn append_json<const ROOM: usize>(
     dated: &DatedFlag<'_>,
     out: &mut RoomyTxt<ROOM>,
 ) -> Result<(), Memory>
-    ensures adds { AddsText (compact_text (flag_data dated.now) ++ codes "\n")
+    ensures adds { AppendsText (compact_text (flag_data dated.now) ++ codes "\n")
         result out.old out.new }
 {
     let text = flag_json(alloc, dated.flag, dated.moment)?;
@@ -87,7 +87,7 @@ fn append_csv<const ROOM: usize>(
     dated: &DatedFlag<'_>,
     out: &mut RoomyTxt<ROOM>,
 ) -> Result<(), Memory>
-    ensures adds { AddsText (row_text default_writer (flag_fields dated.now))
+    ensures adds { AppendsText (row_text default_writer (flag_fields dated.now))
         result out.old out.new }
 {
     let bytes = flag_bytes(alloc, dated.flag, dated.moment)?;
@@ -127,7 +127,7 @@ fn append_flag<const ROOM: usize>(
     line: &FlagLine<'_>,
     out: &mut RoomyTxt<ROOM>,
 ) -> Result<(), Memory>
-    ensures adds { AddsText (flag_line line.now.format line.now.flag.now) result out.old out.new }
+    ensures adds { AppendsText (flag_line line.now.format line.now.flag.now) result out.old out.new }
 {
     let flag = line.flag;
     let text = moment_text(flag.moment);

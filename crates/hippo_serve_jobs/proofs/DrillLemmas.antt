@@ -13,7 +13,7 @@ use Rattle.hippo_report.specs.declared.speaker.Speaker.{Speaker}
 use Rattle.hippo_report.specs.declared.format.Format.TheVariants.{Text}
 use Rattle.hippo_report.specs.declared.refusal.Refusal.TheVariants.{Memory}
 use Rattle.hippo_report.specs.Refusals.{refusal_line}
-use Rattle.hippo_replay.specs.Standing.{latest_moment, StandsFor}
+use Rattle.hippo_replay.specs.Standing.{latest_moment, Represents}
 use Rattle.hippo_engine_sessions.specs.Worlds.{World, opening}
 use Rattle.hippo_engine_world.specs.Holding.{world_of}
 use Rattle.hippo_stmt_lines.specs.Commands.{Command, command_of, who_commands}
@@ -23,7 +23,7 @@ use Rattle.hippo_engine.proofs.CarryingLemmas.{IsTimely-begun, Holds-opening}
 use Rattle.hippo_engine_checks.specs.Checks.{Checked}
 use Rattle.hippo_engine_checks.specs.Deeds as deeds
 use Rattle.hippo_engine_checks.specs.Deeds.{Deed}
-use Rattle.hippo_engine_rules.specs.Effects.{Effect, effect_of, IsEffect, IsShort}
+use Rattle.hippo_engine_rules.specs.Effects.{Effect, effect_of, IsEffect, IsOutOfMemory}
 use Rattle.hippo_engine_checks.specs.Judging.{judged}
 use Rattle.hippo_engine_rules.specs.Runs.{history_after}
 use Rattle.hippo_serve_jobs.specs.declared.drilling.Drilling.{Drilling}
@@ -32,7 +32,7 @@ use Rattle.hippo_engine_rules.proofs.RunLemmas.{history_after-append}
 
 -- when memory runs out, the effect's reply says so
 short_reply : (history : History) (world : World) (reply : Txt) (judgement : Checked Deed) (effect : Effect)
-    → IsShort history world reply judgement effect → effect.reply ≡ reply
+    → IsOutOfMemory history world reply judgement effect → effect.reply ≡ reply
 short_reply history world reply (Ok deeds.do_nothing) effect short = ap (λ (e : Effect). e.reply) short
 short_reply history world reply (Ok (deeds.set_clock moment)) effect short = ap (λ (e : Effect). e.reply) short
 short_reply history world reply (Ok (deeds.log_in number user pair)) effect short = ap (λ (e : Effect). e.reply) short
@@ -88,7 +88,7 @@ map-last f (first ∷ front) last = ap (λ rest. f first ∷ rest) (map-last f f
 -- no line has had its effect yet
 pub drilled_none : (size number : ℕ) (drilling : Drilling) → drilling.left ≡ script size number
     → world_of drilling.engine.world ≡ opening (latest_moment []) drill_limit Text
-    → StandsFor drilling.engine.state [] → drilling.keeper.kept ≡ [] → drilling.counts ≡ counts_of [] → HasDrilled size number drilling
+    → Represents drilling.engine.state [] → drilling.keeper.kept ≡ [] → drilling.counts ≡ counts_of [] → HasDrilled size number drilling
 drilled_none size number drilling left world stands kept counts = record {
   effects = [];
   order =
@@ -98,7 +98,7 @@ drilled_none size number drilling left world stands kept counts = record {
   counted = counts;
 }
 
-pub at_work_none : (engine : Engine) (keeper : MemoryStore) → StandsFor engine.state [] → keeper.kept ≡ []
+pub at_work_none : (engine : Engine) (keeper : MemoryStore) → Represents engine.state [] → keeper.kept ≡ []
     → world_of engine.world ≡ opening (latest_moment []) drill_limit Text → IsReady true (memory_keeper_state keeper) → AtWork engine (memory_keeper_state keeper)
 at_work_none engine keeper stands kept world ready = record {
   sound = record { history = []; stands = stands };

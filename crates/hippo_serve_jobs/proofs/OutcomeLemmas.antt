@@ -10,7 +10,7 @@ use Rattle.hippo_replay.specs.declared.faults.LoadFault.{LoadFault}
 use Rattle.hippo_replay.specs.declared.state.State.{State}
 use Rattle.hippo_replay.specs.Loading.{KeepsFound, IsLoaded, Loads}
 use Rattle.hippo_replay.specs.Recording.{IsBacked}
-use Rattle.hippo_replay.specs.Standing.{StandsFor}
+use Rattle.hippo_replay.specs.Standing.{Represents}
 use Rattle.hippo_keeper.proofs.Results.{ok_of, err_of}
 use Rattle.hippo_program_args.specs.Starting.{Stops}
 use Rattle.hippo_program_args.proofs.StartLemmas.{ends_by_stop}
@@ -56,7 +56,7 @@ module _ (name : Txt) (state : State) (left written : Option Txt) (before loaded
 
     -- what holds of the history that was loaded holds of every history that was found
     pub from_found : (holds : History → Told → Outside → Type 0) (after : Outside)
-        → ((history : History) → StandsFor state history → KeepsHistory history loaded → steps ≡ start + versions history → holds history first.told after) → FromFound name holds first after
+        → ((history : History) → Represents state history → KeepsHistory history loaded → steps ≡ start + versions history → holds history first.told after) → FromFound name holds first after
     from_found holds after give = record {
       store = loaded.kept;
       found = found.found;
@@ -69,11 +69,11 @@ module _ (name : Txt) (state : State) (left written : Option Txt) (before loaded
     }
 
     -- what was loaded is not a damaged list
-    pub undamaged : (setting : Setting) (job : Job) (after : Outside) → ((history : History) → StandsFor state history → KeepsHistory history loaded → steps ≡ start + versions history → LinesEnd Damaged setting job history first.told after) → ⊥
+    pub undamaged : (setting : Setting) (job : Job) (after : Outside) → ((history : History) → Represents state history → KeepsHistory history loaded → steps ≡ start + versions history → LinesEnd Damaged setting job history first.told after) → ⊥
     undamaged setting job after ends = ends is_loaded.history is_loaded.stands (KeepsHistory-found (before.finds name) loaded is_loaded.history found store) is_loaded.steps
 
   pub never_damaged : (setting : Setting) (job : Job) (result : Ending) (after : Outside) → (after.keeper.tells → loaded.tells)
-      → (result ≢ NoMemory → after.keeper.tells → (history : History) → StandsFor state history → KeepsHistory history loaded → steps ≡ start + versions history → LinesEnd result setting job history first.told after)
+      → (result ≢ NoMemory → after.keeper.tells → (history : History) → Represents state history → KeepsHistory history loaded → steps ≡ start + versions history → LinesEnd result setting job history first.told after)
       → result ≡ Damaged → after.keeper.tells → ⊥
   never_damaged setting job result after told ends is tells =
       undamaged (told tells) setting job after (λ history stands keeps counted. subst (λ (r : Ending). LinesEnd r setting job history first.told after) is
@@ -85,7 +85,7 @@ module _ (name : Txt) (state : State) (left written : Option Txt) (before loaded
   -- lines were served over what was loaded
   pub run_ends : (setting : Setting) (job : Job) (result : Ending) (unread unwritten : Type 0) (after : Outside) → result ≢ Refused
       → (result ≡ NoMemory → after.keeper ≡ loaded) → (after.keeper.tells → loaded.tells)
-      → (result ≢ NoMemory → after.keeper.tells → (history : History) → StandsFor state history → KeepsHistory history loaded → steps ≡ start + versions history → LinesEnd result setting job history first.told after)
+      → (result ≢ NoMemory → after.keeper.tells → (history : History) → Represents state history → KeepsHistory history loaded → steps ≡ start + versions history → LinesEnd result setting job history first.told after)
       → after.keeper.tells → RunEnds result unread unwritten setting job name first after
   run_ends setting job Served unread unwritten after served same told ends tells = from_found (told tells) (LinesEnd Served setting job) after (ends (λ e. cc) tells)
   run_ends setting job Refused unread unwritten after served same told ends tells = absurd (served refl)

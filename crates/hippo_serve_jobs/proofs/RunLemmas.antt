@@ -15,7 +15,7 @@ use Rattle.hippo_model.specs.declared.entry.Entry.{Entry}
 use Rattle.hippo_model.specs.Versions.{is_version, versions}
 use Rattle.hippo_keeper.specs.Keeping.{KeeperState}
 use Rattle.hippo_engine_sessions.specs.Tallies.{JobTally}
-use Rattle.hippo_engine_sessions.specs.Worlds.{World, none_held}
+use Rattle.hippo_engine_sessions.specs.Worlds.{World, empty_slots}
 use Rattle.hippo_engine_world.specs.Holding.{world_of, tallies_of}
 use Rattle.hippo_engine_world.proofs.AuditLemmas.{tallies_of-opening}
 use Rattle.hippo_stmt_lines.specs.Commands.{Command, command_of}
@@ -86,7 +86,7 @@ replied_none setting history left written engine keeper start steps holds world 
   kept = subst (λ (h : History). KeepsHistory h keeper) (sym (append-nil history)) kept;
   sum =
       subst (λ (jobs : List (Option JobTally)). RunSum start steps (versions (history ++ [])) 0 jobs) (sym (tallies_of-opening engine.world _ _ _ world))
-      (subst (λ (h : History). RunSum start steps (versions h) 0 (none_held job_limit)) (sym (append-nil history)) (RunSum-start start steps (versions history) job_limit counted));
+      (subst (λ (h : History). RunSum start steps (versions h) 0 (empty_slots job_limit)) (sym (append-nil history)) (RunSum-start start steps (versions history) job_limit counted));
   written = λ bytes is. is ∙ ap Some (sym (append-nil bytes));
 }
 

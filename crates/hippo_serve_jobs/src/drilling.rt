@@ -8,7 +8,7 @@ ghost use Rattle.hippo_report.specs.declared.speaker.Speaker.{Speaker};
 ghost use Rattle.hippo_report.specs.declared.format.Format.TheVariants.{Text};
 ghost use Rattle.hippo_report.specs.declared.refusal.Refusal.TheVariants.{Memory as WantsMemory};
 ghost use Rattle.hippo_report.specs.Refusals.{refusal_line};
-ghost use Rattle.hippo_replay.specs.Standing.{latest_moment, StandsFor};
+ghost use Rattle.hippo_replay.specs.Standing.{latest_moment, Represents};
 ghost use Rattle.hippo_engine_world.specs.Holding.{world_of};
 ghost use Rattle.hippo_engine_sessions.specs.Worlds.{opening};
 ghost use Rattle.hippo_stmt_lines.specs.Commands.{command_of};
@@ -61,7 +61,7 @@ fn start(alloc: Global) -> Result<MemoryKeeper, Memory>
 
 // An engine over the empty history.
 fn open(alloc: Global) -> Result<Engine, Memory>
-    ensures stands { IfOk result (λ engine. StandsFor engine.state []) }
+    ensures stands { IfOk result (λ engine. Represents engine.state []) }
     ensures world { IfOk result (λ engine. world_of engine.world
         ≡ opening (latest_moment []) drill_limit Text) }
 {

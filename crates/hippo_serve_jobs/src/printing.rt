@@ -19,7 +19,7 @@ pub fn refuse<K: Sink>(sink: &mut K) -> Ending
     say(sink, USAGE, Ending::Refused)
 }
 
-/// Writes how many entries are kept.
+/// Writes how many entries are stored.
 pub fn say_entries<K: Sink>(sink: &mut K, count: u64) -> Ending
     ensures says { Says Served (entries_line count) WriteFault result
         (K.written sink.old) (K.written sink.new) (K.faults sink.old) (K.faults sink.new) }

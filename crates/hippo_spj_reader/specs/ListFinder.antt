@@ -10,7 +10,8 @@ module _ {X : Type 0} (leading_part : Finder X) (after_part : Kinds → Option K
   leading_parts zero tokens = None
   leading_parts (suc n) tokens = do
     first ← leading_part tokens
-    others ← either (after_part first.1) (λ remaining. leading_parts n remaining) (Some ([], first.1))
+    others ← either (after_part first.1) (λ remaining. leading_parts n remaining)
+        (Some ([], first.1))
     Some (first.0 ∷ others.0, others.1)
 
   -- the rest of a list after one of its parts

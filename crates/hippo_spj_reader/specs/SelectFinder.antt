@@ -105,7 +105,8 @@ unfoldable pub leading_joined : Kinds → Option (Option (JoinedTable × Kinds))
 leading_joined tokens =
     either (after_symbol Comma tokens) (λ remaining. leading_joined_by_comma remaining >>=
     λ found. Some (Some found))
-    (either (after_join tokens) (λ remaining. leading_joined_on remaining >>= λ found. Some (Some found))
+    (either (after_join tokens)
+    (λ remaining. leading_joined_on remaining >>= λ found. Some (Some found))
     (Some None))
 
 abbrev pub no_sources : Sources
@@ -165,7 +166,8 @@ leading_draft_of distinct tokens = do
 unfoldable pub leading_draft : Finder Draft
 leading_draft tokens = do
   remaining ← after_keyword KSelect tokens
-  either (after_keyword KDistinct remaining) (leading_draft_of true) (leading_draft_of false remaining)
+  either (after_keyword KDistinct remaining) (leading_draft_of true)
+      (leading_draft_of false remaining)
 
 -- a select without GROUP
 unfoldable pub ungrouped_select : Draft → Option RawSelect

@@ -18,7 +18,7 @@ use Rattle.hippo_keeper.specs.Keeping.{Store, RisesAbove, next_number}
 use Rattle.hippo_keeper.specs.declared.faults.KeeperFault.{KeeperFault}
 use Rattle.hippo_keeper.specs.declared.faults.KeeperFault.TheVariants.{Failed, Memory}
 use Rattle.hippo_sqlite_table.specs.Tables.{values_of, row_of, stored_row, entries_in, history_schema}
-use Rattle.hippo_sqlite.specs.Contents.{entries_of, HasHistory, StartsWell, Rests, Contents, connection_contents, OnlyKept, IsSame, AppendsTo, LooksAtStore}
+use Rattle.hippo_sqlite.specs.Contents.{entries_of, HasHistory, StartsWell, Rests, Contents, connection_contents, OnlyKept, IsSame, AppendsTo, LeavesContents}
 use Rattle.hippo_sqlite.specs.Outcomes.{append_result, HasExecuted, HasLooked, IsLinked}
 use Rattle.hippo_sqlite_table.specs.Queries.{create_sql, insert_sql}
 use Rattle.hippo_sqlite_table.proofs.OrderLemmas.{entries_rise}
@@ -182,7 +182,7 @@ module _ {S : Type 0} (g : store.Ghosts S)
       | inr fails ↦ query_left text params before after fails.0 fails.1
     ]
 
-    looks_on : {A : Type 0} (result : Result A KeeperFault) → has_failed result ≡ false → LooksAtStore result was (connection_contents g new new opened)
+    looks_on : {A : Type 0} (result : Result A KeeperFault) → has_failed result ≡ false → LeavesContents result was (connection_contents g new new opened)
     looks_on result other =
         let it = λ (clean : HasCleanDisk after) (is_open : IsTrue after.is_open) (well : StartsWell (state g opened).now). rests (looks_early clean) (look_open clean is_open) well in
         let made = λ (clean : HasCleanDisk after) (is_open : IsTrue after.is_open) (well : StartsWell (state g opened).now).
@@ -192,7 +192,7 @@ module _ {S : Type 0} (g : store.Ghosts S)
           same = λ t. same_committed (look_open t.0 t.1) t.1 (made t.0 t.1 t.2).0 (made t.0 t.1 t.2).1;
         }
 
-    looks_badly : (A : Type 0) → LooksAtStore (err_of A Failed) was (connection_contents g new old opened)
+    looks_badly : (A : Type 0) → LeavesContents (err_of A Failed) was (connection_contents g new old opened)
     looks_badly A = record {
       on = record { told = λ t. (looks_early t.0, t.1, t.2); rests = λ other. absurd cc };
       same = λ t.
@@ -200,10 +200,10 @@ module _ {S : Type 0} (g : store.Ghosts S)
           same_as_told t.1 t.0 it (λ trees leaves. elim (survives.crash t.0 trees leaves) [ inl left ↦ left | inr commits ↦ absurd (never_commits text params before trees (plain_so it) commits) ]);
     }
 
-    pub looks_at : {A : Type 0} (result : Result A KeeperFault) (told : Held S) → told ≡ cond (has_failed result) old new → LooksAtStore result was (connection_contents g new told opened)
-    looks_at {A} (Ok value) told is = subst (λ t. LooksAtStore (ok_of value) was (connection_contents g new t opened)) (sym is) (looks_on (ok_of value) refl)
-    looks_at {A} (Err Failed) told is = subst (λ t. LooksAtStore (err_of A Failed) was (connection_contents g new t opened)) (sym is) (looks_badly A)
-    looks_at {A} (Err Memory) told is = subst (λ t. LooksAtStore (err_of A Memory) was (connection_contents g new t opened)) (sym is) (looks_on (err_of A Memory) refl)
+    pub looks_at : {A : Type 0} (result : Result A KeeperFault) (told : Held S) → told ≡ cond (has_failed result) old new → LeavesContents result was (connection_contents g new told opened)
+    looks_at {A} (Ok value) told is = subst (λ t. LeavesContents (ok_of value) was (connection_contents g new t opened)) (sym is) (looks_on (ok_of value) refl)
+    looks_at {A} (Err Failed) told is = subst (λ t. LeavesContents (err_of A Failed) was (connection_contents g new t opened)) (sym is) (looks_badly A)
+    looks_at {A} (Err Memory) told is = subst (λ t. LeavesContents (err_of A Memory) was (connection_contents g new t opened)) (sym is) (looks_on (err_of A Memory) refl)
 
   -- ---- a start
 
@@ -246,13 +246,13 @@ module _ {S : Type 0} (g : store.Ghosts S)
 
   pub look_linked : {A : Type 0} (text : List ℕ) (params : Row) (result : Result A KeeperFault) → IsPlain (understood history_schema text)
       → Survives (state g old) (state g new) (CommitsShowing text params (state g old)) → (HasCleanDisk (state g new) → HasLooked text params (state g old) (state g new))
-      → told ≡ cond (has_failed result) told_before new → LooksAtStore result (connection_contents g old told_before opened) (connection_contents g new told opened)
+      → told ≡ cond (has_failed result) told_before new → LeavesContents result (connection_contents g old told_before opened) (connection_contents g new told opened)
   look_linked text params result plain survives looked is =
-      subst (λ t. LooksAtStore result (connection_contents g old t opened) (connection_contents g new told opened)) (sym rests.0)
+      subst (λ t. LeavesContents result (connection_contents g old t opened) (connection_contents g new told opened)) (sym rests.0)
       (looks_at g settled stays something old new opened text params rests.1 plain survives looked result told (is ∙ ap (λ t. cond (has_failed result) t new) rests.0))
 
   -- the store is not queried at all
-  pub look_away : {A : Type 0} (value : A) → LooksAtStore (ok_of value) (connection_contents g old told_before opened) (connection_contents g old told_before opened)
+  pub look_away : {A : Type 0} (value : A) → LeavesContents (ok_of value) (connection_contents g old told_before opened) (connection_contents g old told_before opened)
   look_away value = record {
     on = record { told = λ t. t; rests = λ _. rests };
     same = λ t.

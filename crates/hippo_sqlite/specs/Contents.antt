@@ -10,9 +10,9 @@ use Rattle.sqlite.specs.Effect.{Database, IsDatabase}
 use Rattle.sqlite.specs.State.{State, HasCleanDisk}
 use Rattle.sqlite.specs.Held.{Held, state}
 use Rattle.hippo_model.specs.declared.stored.StoredEntry.{StoredEntry}
-use Rattle.hippo_keeper.specs.Answering.{has_failed, wants_memory}
+use Rattle.hippo_keeper.specs.Answering.{has_failed, is_out_of_memory}
 use Rattle.hippo_keeper.specs.Keeping.{Store, Survivors, RisesAbove}
-use Rattle.hippo_keeper.specs.Selecting.{handed_over}
+use Rattle.hippo_keeper.specs.Selecting.{selected_entries}
 use Rattle.hippo_keeper.specs.declared.faults.KeeperFault.{KeeperFault}
 use Rattle.hippo_sqlite_table.specs.Tables.{HistoryRow, stored_row, entries_in, AreInOrder, history_schema, empty_schema}
 
@@ -100,10 +100,10 @@ pub record AppendsTo {A : Type 0} (entry : StoredEntry) (result : Result A Keepe
       → old.survives entries ⊎ (entries ≡ old.kept ++ entry ∷ [])
   pub some : has_failed result ≡ true → new.tells
       → ∥ ((entries : Store) × new.survives entries) ∥₁
-  pub memory : wants_memory result ≡ true → new.tells → IsSame old new
+  pub memory : is_out_of_memory result ≡ true → new.tells → IsSame old new
 
 -- a read changes nothing that is stored
-pub record LooksAtStore {A : Type 0} (result : Result A KeeperFault) (old new : Contents)
+pub record LeavesContents {A : Type 0} (result : Result A KeeperFault) (old new : Contents)
     : Type 0 where
   pub on : GoesOn result old new
   pub same : new.tells → IsSame old new
@@ -113,5 +113,5 @@ pub record HasRead (test : StoredEntry → Bool) (after max : ℕ) (result : Res
     (old new : Contents) : Type 0 where
   pub few : IfOk result (λ list. length list ≤ max)
   pub order : IfOk result (RisesAbove after)
-  pub looks : LooksAtStore result old new
-  pub told : IfOk result (λ list. new.tells → list ≡ handed_over test after max old.kept)
+  pub looks : LeavesContents result old new
+  pub told : IfOk result (λ list. new.tells → list ≡ selected_entries test after max old.kept)

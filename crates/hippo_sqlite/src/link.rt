@@ -4,7 +4,7 @@ ghost use Rattle.sqlite.specs.State.{HasCleanDisk, Survives, CommitsShowing, Ope
 ghost use Rattle.sqlite.specs.Held.{state};
 ghost use Rattle.hippo_keeper.specs.Answering.{has_failed};
 ghost use Rattle.hippo_keeper.specs.Keeping.{RisesAbove, next_number};
-ghost use Rattle.hippo_keeper.specs.Selecting.{handed_over, was_asked_in, is_selected, versions_read};
+ghost use Rattle.hippo_keeper.specs.Selecting.{selected_entries, was_asked_in, is_selected, versions_read};
 ghost use Rattle.hippo_sqlite.specs.Contents.{AppendsTo, HasRead};
 ghost use Rattle.hippo_sqlite.specs.Links.{linked_contents, link_contents};
 ghost use Rattle.hippo_sqlite.specs.Outcomes.{HasExecuted, HasLooked, IsLinked};
@@ -82,7 +82,8 @@ fn find<S: Alter>(
         → (rows : List HistoryRow)
         → (state S.Store connection.old).now.schema ≡ history_schema
         → (state S.Store connection.old).now.trees 0 ≡ map stored_row rows → AreInOrder rows
-        → list ≡ handed_over (is_selected read_query.now.selection) read_query.now.after read_query.now.max
+        → list ≡ selected_entries (is_selected read_query.now.selection) read_query.now.after
+        read_query.now.max
         (entries_in (map stored_row rows))) }
 {
     match select(connection, read_query) {
@@ -160,7 +161,8 @@ impl<S: Alter + Drop> Linked<S> {
     fn read(&mut self, alloc: Global, read_query: &ReadQuery<'_>) -> ReadResult
         requires limit { read_query.now.max ≤ 1000 }
         requires rests { (linked_contents S.Store self.old).rests }
-        ensures { HasRead (is_selected read_query.now.selection) read_query.now.after read_query.now.max result
+        ensures { HasRead (is_selected read_query.now.selection) read_query.now.after
+            read_query.now.max result
             (linked_contents S.Store self.old) (linked_contents S.Store self.new) }
     {
         if read_query.after >= NUMBERS {
@@ -232,7 +234,8 @@ impl<S: Alter + Drop> Link<S> {
     ) -> ReadResult
         requires limit { read_query.now.max ≤ 1000 }
         requires rests { (link_contents S.Store self.old).rests }
-        ensures reads { HasRead (is_selected read_query.now.selection) read_query.now.after read_query.now.max
+        ensures reads { HasRead (is_selected read_query.now.selection) read_query.now.after
+            read_query.now.max
             result (link_contents S.Store self.old) (link_contents S.Store self.new) }
         ensures steps { steps.new ≡ steps.old + versions_read result }
     {

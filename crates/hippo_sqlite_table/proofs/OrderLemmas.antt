@@ -9,7 +9,7 @@ use Rattle.sqlite_trees.specs.Objects.{number_in}
 use Rattle.sqlite_keyed.proofs.ListLemmas.{map-map, filter-map, filter-filter}
 use Rattle.hippo_model.specs.declared.stored.StoredEntry.{StoredEntry}
 use Rattle.hippo_keeper.specs.Keeping.{Store, RisesAbove, last_number, next_number}
-use Rattle.hippo_keeper.specs.Selecting.{handed_over}
+use Rattle.hippo_keeper.specs.Selecting.{selected_entries}
 use Rattle.hippo_sqlite_table.specs.Tables.{HistoryRow, stored_row, row_of, entry_in, entries_in, AreInOrder}
 
 abbrev pub Below : ℤ → List HistoryRow → Type 0
@@ -147,7 +147,7 @@ above_zero after entry test = is_above 0 entry.seq (let up = above_is after entr
 -- rows that pass have the entries that are asked for
 pub handed : (test : StoredEntry → Bool) (after max : ℕ) (pass : HistoryRow → Bool) (rows : List HistoryRow)
     → ((row : HistoryRow) → (nat_lt after (entry_in (stored_row row)).seq && test (entry_in (stored_row row))) ≡ pass row)
-    → map (λ row. entry_in (stored_row row)) (take max (filter pass rows)) ≡ handed_over test after max (entries_in (map stored_row rows))
+    → map (λ row. entry_in (stored_row row)) (take max (filter pass rows)) ≡ selected_entries test after max (entries_in (map stored_row rows))
 handed test after max pass rows agrees =
     let entry = λ (row : HistoryRow). entry_in (stored_row row) in
     let all = map entry rows in
@@ -178,9 +178,9 @@ none_above limit after (row ∷ rows) some high below =
     let low = low_seq row.number limit some below.0 in
     none_case (nat_lt 0 (number_in (Int row.number))) after (entry_in (stored_row row)) (entries_in (map stored_row rows)) (omega (arith, low)) (none_above limit after rows some high below.1)
 
-pub none_handed : (test : StoredEntry → Bool) (after max : ℕ) (rows : List HistoryRow) → 2 ^ 63 ≤ after → AreInOrder rows → [] ≡ handed_over test after max (entries_in (map stored_row rows))
+pub none_handed : (test : StoredEntry → Bool) (after max : ℕ) (rows : List HistoryRow) → 2 ^ 63 ≤ after → AreInOrder rows → [] ≡ selected_entries test after max (entries_in (map stored_row rows))
 none_handed test after max rows high order = go max (none_above (2 ^ 63) after rows (omega arith) high order.low)
   where
-    go : (count : ℕ) → filter (λ kept. nat_lt after kept.seq) (entries_in (map stored_row rows)) ≡ [] → [] ≡ handed_over test after count (entries_in (map stored_row rows))
+    go : (count : ℕ) → filter (λ kept. nat_lt after kept.seq) (entries_in (map stored_row rows)) ≡ [] → [] ≡ selected_entries test after count (entries_in (map stored_row rows))
     go zero none = refl
     go (suc count) none = rw none refl

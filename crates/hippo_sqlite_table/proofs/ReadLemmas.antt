@@ -11,7 +11,7 @@ use Rattle.sqlite_keyed.proofs.ListLemmas.{ascending-filter}
 use Rattle.sqlite.specs.State.{State, Shown}
 use Rattle.sqlite.proofs.Callers.{reads_as}
 use Rattle.hippo_model.specs.declared.stored.StoredEntry.{StoredEntry}
-use Rattle.hippo_keeper.specs.Selecting.{is_selected, handed_over}
+use Rattle.hippo_keeper.specs.Selecting.{is_selected, selected_entries}
 use Rattle.hippo_keeper.specs.declared.selection.Selection.{Selection}
 use Rattle.hippo_sqlite_table.specs.Queries.{read_sql, params_of}
 use Rattle.hippo_sqlite_table.specs.Tables.{HistoryRow, stored_row, shown_row, entry_in, entries_in, AreInOrder, AreAbove, history_schema}
@@ -63,7 +63,7 @@ rising_taken (suc max) (row ∷ rows) rising = (all_taken (λ other. int_cmp row
 pub told_by : (selection : Selection) (old new : State) (after max : ℕ) (rows : List HistoryRow) (found : List Row) (list : List StoredEntry) → old.now.schema ≡ history_schema → old.now.trees 0 ≡ map stored_row rows → AreInOrder rows
     → Shown (read_sql selection) (params_of selection after max) old new found
     → ((written : List HistoryRow) → found ≡ map shown_row written → AreAbove (pos after) written → length written ≤ max → list ≡ map (λ row. entry_in (stored_row row)) written)
-    → list ≡ handed_over (is_selected selection) after max (entries_in (map stored_row rows))
+    → list ≡ selected_entries (is_selected selection) after max (entries_in (map stored_row rows))
 told_by selection old new after max rows found list schema are order shown read =
     let passing = filter (passes selection after) rows in
     let is = shown_is selection old new after max rows found schema are order shown ∙ take-map shown_row max passing in

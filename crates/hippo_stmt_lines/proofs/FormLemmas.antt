@@ -10,7 +10,7 @@ use Rattle.hippo_values.specs.Names.{lower_case}
 use Rattle.hippo_stmt_lines.specs.declared.short_words.ShortWord.{ShortWord}
 use Rattle.hippo_values.specs.Limits.{session_limit}
 use Rattle.hippo_values.specs.Options.{◌>>=◌}
-use Rattle.hippo_stmt_lines.specs.Words.{words_of, around_space, only}
+use Rattle.hippo_stmt_lines.specs.Words.{words_of, split_at_space, only}
 use Rattle.hippo_stmt_lines.specs.Numbers.{numeral_value}
 use Rattle.hippo_stmt_lines.specs.Forms.{Request, Form, says_nothing, sets_clock, makes_request, makes_statement, short_word_of, request_by, form_in, form_with, session_form, at_of, is_silent, form_by, line_form}
 
@@ -70,7 +70,7 @@ makes_statement-within line text session found = by_silence (is_silent line) fou
         let count : length (after_first is_space line) ≡ length line - (position_or_len is_space line + 1) = length-drop (position_or_len is_space line + 1) line in
         (rw (← is.whole, count) (omega arith), is.filled)
 
-    by_silence : (silent : Bool) → (if silent then Some says_nothing else (around_space line >>= λ (first, rest). form_by first rest)) ≡ Some (makes_statement session text)
+    by_silence : (silent : Bool) → (if silent then Some says_nothing else (split_at_space line >>= λ (first, rest). form_by first rest)) ≡ Some (makes_statement session text)
         → (length text < length line) × (words_of text ≢ [])
     by_silence true e = let other : Some says_nothing ≡ Some (makes_statement session text) = e in cc
     by_silence false e = by_space (nat_lt (position_or_len is_space line) (length line)) refl e

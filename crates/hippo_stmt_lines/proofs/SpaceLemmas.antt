@@ -8,7 +8,7 @@ use Rattle.std.proofs.lemmas.List.{take_all, drop_all}
 use Rattle.std.proofs.lemmas.List.Sums.{prefix_len_passes, prefix_len-le-length}
 use Rattle.std.proofs.lemmas.Str.{IsCharBoundary-start, IsCharBoundary-after_ascii}
 use Rattle.hippo_values.specs.Texts.{is_space}
-use Rattle.hippo_stmt_lines.specs.Words.{is_filled, words_of, around_space, trimmed_text}
+use Rattle.hippo_stmt_lines.specs.Words.{is_filled, words_of, split_at_space, trimmed_text}
 
 -- a text may be cut after spaces
 cut_at : (text : List ℕ) (n : ℕ) → IsUtf8 text → n ≤ length text → (0 < n → get_or text (n - 1) 0 < 128) → IsCharBoundary text n
@@ -95,10 +95,10 @@ words_of-blank text none = words_of-trimmed_text text ∙ by_form (trimmed_text 
     by_form rest (inr some) none = let more : suc (length some.1) ≡ 0 = rw some.2 at none in absurd (omega arith)
 
 -- a space follows the first word
-pub words_of-more : (text word more : List ℕ) → around_space (trimmed_text text) ≡ Some (word, more) → words_of text ≡ word ∷ words_of more
+pub words_of-more : (text word more : List ℕ) → split_at_space (trimmed_text text) ≡ Some (word, more) → words_of text ≡ word ∷ words_of more
 words_of-more text word more found = words_of-trimmed_text text ∙ by_form (trimmed_text text) (trimmed_text-is text) found
   where
-    by_form : (rest : List ℕ) → IsTrimmed rest → around_space rest ≡ Some (word, more) → words_of rest ≡ word ∷ words_of more
+    by_form : (rest : List ℕ) → IsTrimmed rest → split_at_space rest ≡ Some (word, more) → words_of rest ≡ word ∷ words_of more
     by_form rest (inl empty) found = let nothing : None ≡ Some (word, more) = rw empty at found in cc
     by_form rest (inr some) found = elim (cases_Bool (nat_lt (position_or_len is_space rest) (length rest))) [
       | inl within ↦
@@ -118,10 +118,10 @@ words_of-more text word more found = words_of-trimmed_text text ∙ by_form (tri
         second_in (Some parts) = parts.1
 
 -- the first word is the last one
-pub words_of-last : (text : List ℕ) → eqb (length (trimmed_text text)) 0 ≡ false → around_space (trimmed_text text) ≡ None → words_of text ≡ trimmed_text text ∷ words_of []
+pub words_of-last : (text : List ℕ) → eqb (length (trimmed_text text)) 0 ≡ false → split_at_space (trimmed_text text) ≡ None → words_of text ≡ trimmed_text text ∷ words_of []
 words_of-last text some missing = words_of-trimmed_text text ∙ by_form (trimmed_text text) (trimmed_text-is text) some missing
   where
-    by_form : (rest : List ℕ) → IsTrimmed rest → eqb (length rest) 0 ≡ false → around_space rest ≡ None → words_of rest ≡ rest ∷ words_of []
+    by_form : (rest : List ℕ) → IsTrimmed rest → eqb (length rest) 0 ≡ false → split_at_space rest ≡ None → words_of rest ≡ rest ∷ words_of []
     by_form rest (inl empty) some missing = let none : true ≡ false = rw empty at some in cc
     by_form rest (inr parts) some missing = elim (cases_Bool (nat_lt (position_or_len is_space rest) (length rest))) [
       | inl within ↦ let something : Some (before_first is_space rest, after_first is_space rest) ≡ None = rw within at missing in cc

@@ -125,10 +125,10 @@ takes_memory (make_statement who stmt text) = true
 
 -- only the reading of a statement takes memory; such a line reads as a statement, or as a refusal
 -- that speaks for somebody
-abbrev pub may_want : Command → Bool
-may_want (wrong who refusal) = is_somebody who
-may_want (make_statement who stmt text) = true
-may_want command = false
+abbrev pub may_run_out_of_memory : Command → Bool
+may_run_out_of_memory (wrong who refusal) = is_somebody who
+may_run_out_of_memory (make_statement who stmt text) = true
+may_run_out_of_memory command = false
 
 -- the result is the outcome, or out of memory
 abbrev pub OrMemory : {A : Type 0} → Result A Refusal → Result A Refusal → Type 0
@@ -137,4 +137,5 @@ OrMemory outcome result = (result ≡ outcome) ⊎ (result ≡ Err Memory)
 -- a line commands this, or it is refused as out of memory to read it
 abbrev pub IsCommand : Command → Command → Type 0
 IsCommand command found =
-    (found ≡ command) ⊎ ((may_want command ≡ true) × (found ≡ wrong (who_commands command) Memory))
+    (found ≡ command)
+    ⊎ ((may_run_out_of_memory command ≡ true) × (found ≡ wrong (who_commands command) Memory))

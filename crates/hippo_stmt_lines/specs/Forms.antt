@@ -9,7 +9,7 @@ use Rattle.hippo_stmt_lines.specs.declared.short_words.ShortWord.{ShortWord}
 use Rattle.hippo_stmt_lines.specs.declared.short_words.ShortWord.TheVariants.{Login, Logout, Fetch, Close, Step, Drop, Unwatch, Load}
 use Rattle.hippo_values.specs.Limits.{session_limit, cursor_limit, job_limit, watch_limit, fetch_limit, step_limit}
 use Rattle.hippo_values.specs.Options.{◌>>=◌}
-use Rattle.hippo_stmt_lines.specs.Words.{words_of, around_space, trimmed_text, only, two, three}
+use Rattle.hippo_stmt_lines.specs.Words.{words_of, split_at_space, trimmed_text, only, two, three}
 use Rattle.hippo_stmt_lines.specs.Numbers.{numeral_value}
 
 -- the request that a short word and its arguments make
@@ -82,8 +82,8 @@ unwatch_of arguments = option_map unwatches (one_number watch_limit arguments)
 -- load TABLE RECORD: the record is everything after the one space that follows TABLE
 abbrev pub load_of : Txt → Option Request
 load_of text = do
-  (_, remaining) ← around_space (trimmed_text text)
-  (table, fields) ← around_space (trimmed_text remaining)
+  (_, remaining) ← split_at_space (trimmed_text text)
+  (table, fields) ← split_at_space (trimmed_text remaining)
   name ← name_of table
   Some (loads name fields)
 
@@ -149,4 +149,4 @@ form_by first remaining =
 abbrev pub line_form : Txt → Option Form
 line_form line =
     if is_silent line then Some says_nothing
-    else (around_space line >>= λ (first, remaining). form_by first remaining)
+    else (split_at_space line >>= λ (first, remaining). form_by first remaining)

@@ -13,8 +13,8 @@ unfoldable pub words_of : Txt → List Txt
 words_of text = filter is_filled (slice_split is_space text)
 
 -- the parts before and after the first space
-abbrev pub around_space : Txt → Option (Txt × Txt)
-around_space text =
+abbrev pub split_at_space : Txt → Option (Txt × Txt)
+split_at_space text =
     then_some (nat_lt (position_or_len is_space text) (length text))
     (before_first is_space text, after_first is_space text)
 

@@ -8,7 +8,7 @@ use crate::forms::LineForm;
 use crate::numbers::small_number;
 use crate::requests::request_by;
 use crate::short_words::{equals_folded, short_word_of};
-use crate::words::{around_space, first_word, is_blank, only_word};
+use crate::words::{first_word, is_blank, only_word, split_at_space};
 use hippo_values::SESSION_LIMIT;
 
 fn is_comment(line: &[u8]) -> bool
@@ -61,7 +61,7 @@ pub fn line_form(line: &str) -> Option<LineForm<'_>>
     if is_silent(line) {
         return Some(LineForm::Silent);
     }
-    let (first, remaining) = around_space(line)?;
+    let (first, remaining) = split_at_space(line)?;
     if equals_folded("at", first) {
         at_of(remaining)
     } else {

@@ -7,7 +7,7 @@ ghost use Rattle.hippo_stmt_lines.specs.LentForms.{request};
 use crate::forms::RequestForm;
 use crate::numbers::{number, small_number};
 use crate::short_words::ShortWord;
-use crate::words::{around_space, first_word, only_word, three_words, trimmed, two_words};
+use crate::words::{first_word, only_word, split_at_space, three_words, trimmed, two_words};
 use crate::written_name::WrittenName;
 use hippo_values::{CURSOR_LIMIT, FETCH_LIMIT, JOB_LIMIT, STEP_LIMIT, WATCH_LIMIT};
 
@@ -65,8 +65,8 @@ fn step_of(arguments: &str) -> Option<RequestForm<'_>>
 fn load_of(text: &str) -> Option<RequestForm<'_>>
     ensures { option_map request result ≡ load_of text.now }
 {
-    let (_, remaining) = around_space(trimmed(text))?;
-    let (table, record) = around_space(trimmed(remaining))?;
+    let (_, remaining) = split_at_space(trimmed(text))?;
+    let (table, record) = split_at_space(trimmed(remaining))?;
     let table = WrittenName::from_word(table)?;
     Some(RequestForm::Load { table, record })
 }

@@ -2,7 +2,7 @@
 ghost use Rattle.std.specs.Prelude.{◌≡◌, [], ◌∷◌, option_map, option_copied, MatchOption};
 ghost use Rattle.std.specs.List.{list_all, prefix_len};
 ghost use Rattle.hippo_values.specs.Texts.{is_space};
-ghost use Rattle.hippo_stmt_lines.specs.Words.{words_of, around_space, trimmed_text, only, two, three};
+ghost use Rattle.hippo_stmt_lines.specs.Words.{words_of, split_at_space, trimmed_text, only, two, three};
 
 fn spaces_len(bytes: &[u8]) -> usize
     ensures { result ≡ prefix_len is_space bytes.now }
@@ -25,8 +25,8 @@ pub fn trimmed(text: &str) -> &str
 }
 
 /// The parts of a text before and after its first space, or none if it has no space.
-pub fn around_space(text: &str) -> Option<(&str, &str)>
-    ensures { option_map (λ parts. (parts.0.now, parts.1.now)) result ≡ around_space text.now }
+pub fn split_at_space(text: &str) -> Option<(&str, &str)>
+    ensures { option_map (λ parts. (parts.0.now, parts.1.now)) result ≡ split_at_space text.now }
 {
     text.split_once(' ')
 }
@@ -40,7 +40,7 @@ pub fn first_word(text: &str) -> Option<(&str, &str)>
     if rest.is_empty() {
         return None;
     }
-    match around_space(rest) {
+    match split_at_space(rest) {
         Some(parts) => Some(parts),
         None => Some((rest, "")),
     }

@@ -72,7 +72,8 @@ leading_column_def tokens = do
 -- what follows a comma, if a further column does
 abbrev pub after_column : Kinds → Option (Kinds)
 after_column tokens =
-    after_symbol Comma tokens >>= λ remaining. if begins_with_name remaining then Some remaining else None
+    after_symbol Comma tokens
+    >>= λ remaining. if begins_with_name remaining then Some remaining else None
 
 -- the name after this keyword
 abbrev pub leading_name_after : words.Keyword → Finder Name

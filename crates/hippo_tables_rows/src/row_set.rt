@@ -65,7 +65,7 @@ impl RowSet {
 
     /// Inserts a row at its place in the order of keys, and returns the place. Returns None, and
     /// does nothing, if a row has the same key. The set is unchanged when out of memory. Takes one
-    /// search.
+    /// search, and one more for each secondary order.
     pub fn insert(&mut self, row: Cells, born: Moment) -> Result<Option<usize>, Memory>
         ensures ok { IfOk result (Inserts (record { row = row; born = born }) self.old self.new) }
         ensures err { OnErr result (self.new ≡ self.old) }

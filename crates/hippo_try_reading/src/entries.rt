@@ -1,6 +1,6 @@
 //! Shows which entry a stored form belongs to.
 
-use crate::unless_short;
+use crate::or_out_of_memory;
 use hippo_entry::decode;
 use hippo_entry_hex::stored;
 use hippo_model::{Entry, StoredEntry};
@@ -39,5 +39,5 @@ fn shown(alloc: Global, text: &str) -> Result<String, Memory> {
 /// Shows the entry whose stored form a text writes: its number, its moment and its act, or that
 /// there is none.
 pub fn shown_entry(alloc: Global, text: &str) -> Result<String, AllocError> {
-    unless_short(shown(alloc, text))
+    or_out_of_memory(shown(alloc, text))
 }

@@ -27,7 +27,7 @@ use std::fs::Files;
 use std::io;
 
 /// What is shown, or an error when out of memory.
-pub fn unless_short(shown: Result<String, Memory>) -> Result<String, AllocError> {
+pub fn or_out_of_memory(shown: Result<String, Memory>) -> Result<String, AllocError> {
     match shown {
         Ok(shown) => Ok(shown),
         Err(Memory) => Err(AllocError),

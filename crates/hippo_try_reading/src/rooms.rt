@@ -1,6 +1,6 @@
 //! Shows what fits in the memory for the longest line, and the CSV record of a row.
 
-use crate::unless_short;
+use crate::or_out_of_memory;
 use hippo_csv::extract_line;
 use hippo_entry_hex::first_word;
 use hippo_model::{Cell, CellRow};
@@ -69,5 +69,5 @@ fn record(alloc: Global, text: &str) -> Result<String, Memory> {
 /// Shows the record of a row of numbers and denied cells, as session 1 receives it after its first
 /// line.
 pub fn shown_record(alloc: Global, text: &str) -> Result<String, AllocError> {
-    unless_short(record(alloc, text))
+    or_out_of_memory(record(alloc, text))
 }

@@ -12,8 +12,8 @@
 //!   words are shortened to their number and the last one (`brief.rt`).
 //! - Between calls, `remove N` removes the entry at place N from what is stored, `put N ENTRY`
 //!   inserts one there (`store.rt`), and `kept` writes all entries.
-//! - A line that begins with `# ` says what a case shows. Any other line ends the program with a
-//!   fault.
+//! - A line that begins with `# ` says what a case shows. An empty line is skipped. Any other line
+//!   ends the program with a fault.
 #![tactic(auto)]
 
 ghost use Rattle.std.specs.Prelude.{◌≡◌, ◌<◌, false};

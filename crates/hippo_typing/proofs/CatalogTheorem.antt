@@ -23,7 +23,7 @@ use Rattle.hippo_model.specs.Keepable.{is_keepable}
 use Rattle.hippo_model.specs.Terms.{History, Meaning}
 use Rattle.hippo_model.specs.Validity.{creates_purpose, creates_recipient, is_purpose, is_recipient, creates_table, keeps_order, is_acceptable, is_well_formed, may_follow, is_valid}
 use Rattle.hippo_model.proofs.LastWords.{last_word-append}
-use Rattle.hippo_typing_catalog.specs.Catalogs.{KnownNames, table_in, purpose_in, recipient_in, item_in, known_at, known_after, has_purpose, has_recipient, creates_anew}
+use Rattle.hippo_typing_catalog.specs.Catalogs.{KnownNames, table_in, purpose_in, recipient_in, item_in, known_at, known_after, has_purpose, has_recipient, creates_new_names}
 use Rattle.hippo_model_laws.proofs.ValidFronts.{holds_of_each_valid}
 use Rattle.hippo_typing.specs.ResolutionLaws.{NamesAreThoseOf}
 use Rattle.hippo_typing.proofs.LastingNames.{lookup-append}
@@ -152,7 +152,7 @@ valid_names meaning history valid =
     (record { tables = λ table. refl; purposes = λ purpose. refl; recipients = λ recipient. refl; items = λ item. refl; count = refl }) history valid
 
 module _ (meaning : Meaning) (history : History) (names : NamesAreThoseOf history) where
-  anew : (act : Act) → is_acceptable meaning history act ≡ true → creates_anew (known_at history) act ≡ true
+  anew : (act : Act) → is_acceptable meaning history act ≡ true → creates_new_names (known_at history) act ≡ true
   anew (Create schema) fits =
       let first = (and_parts (nat_lt (count_by (λ (e : Entry). creates_table e.act) history) table_limit && is_none (schema_at history schema.name)) (is_well_formed schema) fits).0 in
       ap is_none (names.tables schema.name) ∙ (and_parts (nat_lt (count_by (λ (e : Entry). creates_table e.act) history) table_limit) (is_none (schema_at history schema.name)) first).1
@@ -162,6 +162,6 @@ module _ (meaning : Meaning) (history : History) (names : NamesAreThoseOf histor
   anew act fits = refl
 
 -- an entry that may follow creates no name that already exists
-pub entries_create_anew : (meaning : Meaning) (history : History) (entry : Entry) → is_valid meaning history ≡ true → may_follow meaning history entry ≡ true → creates_anew (known_at history) entry.act ≡ true
+pub entries_create_anew : (meaning : Meaning) (history : History) (entry : Entry) → is_valid meaning history ≡ true → may_follow meaning history entry ≡ true → creates_new_names (known_at history) entry.act ≡ true
 entries_create_anew meaning history entry valid may =
     anew meaning history (valid_names meaning history valid) entry.act (acceptable meaning history entry may)

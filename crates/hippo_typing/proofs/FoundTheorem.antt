@@ -29,7 +29,7 @@ use Rattle.hippo_typing_catalog.proofs.Refused.{first_after, with_four}
 use Rattle.hippo_values.specs.Limits.{from_limit, item_limit}
 use Rattle.hippo_typing_catalog.specs.StatementLimits.{too_many}
 use Rattle.hippo_typing_catalog.specs.WrittenColumns.{column_of}
-use Rattle.hippo_typing_catalog.specs.Selects.{outs_of, by_of, plain_column, argument_in, same_reference, lone_column, groups_refused, shown_outs, form_of, listed_columns, columns_refused, select_parts_refused, select_refused, query_of}
+use Rattle.hippo_typing_catalog.specs.Selects.{outs_of, by_of, plain_column, argument_in, same_reference, ungrouped_column, groups_refused, shown_outs, form_of, listed_columns, columns_refused, select_parts_refused, select_refused, query_of}
 use Rattle.hippo_typing.specs.Found.{with_column, with_out, plain_found, argument_found, lone_found, groups_found_refused, shown_found}
 use Rattle.hippo_typing.specs.FoundSelects.{list_found, select_found, own_items, form_found, head_of, query_with, head_refused}
 use Rattle.hippo_typing.specs.declared.selects.FoundSelect.{FoundSelect}
@@ -65,17 +65,17 @@ module _ (schemas : List Schema) where
   any_of column [] = refl
   any_of column (first ∷ rest) = ap (λ t. same_reference column (column_of schemas first) || t) (any_of column rest)
 
-  lone_of : (others written : List RawColumn) → flat_map (lone_found (map (with_column schemas) others)) (map (with_column schemas) written) ≡ flat_map (lone_column schemas others) written
+  lone_of : (others written : List RawColumn) → flat_map (lone_found (map (with_column schemas) others)) (map (with_column schemas) written) ≡ flat_map (ungrouped_column schemas others) written
   lone_of others [] = refl
   lone_of others (first ∷ rest) =
       ap (λ t. fault_if (not t) (NotGrouped first.column) ++ flat_map (lone_found (map (with_column schemas) others)) (map (with_column schemas) rest)) (any_of (column_of schemas first) others)
-      ∙ ap (λ l. lone_column schemas others first ++ l) (lone_of others rest)
+      ∙ ap (λ l. ungrouped_column schemas others first ++ l) (lone_of others rest)
 
   groups_of : (outs : List RawOut) (by : List RawColumn) → groups_found_refused (map (with_out schemas) outs) (map (with_column schemas) by) ≡ groups_refused schemas outs by
   groups_of outs by =
       ap (λ plain. flat_map (lone_found (map (with_column schemas) by)) plain ++ flat_map (lone_found plain) (map (with_column schemas) by)) (plain_of outs)
       ∙ ap (λ l. l ++ flat_map (lone_found (map (with_column schemas) (filter_map plain_column outs))) (map (with_column schemas) by)) (lone_of by (filter_map plain_column outs))
-      ∙ ap (λ l. flat_map (lone_column schemas by) (filter_map plain_column outs) ++ l) (lone_of (filter_map plain_column outs) by)
+      ∙ ap (λ l. flat_map (ungrouped_column schemas by) (filter_map plain_column outs) ++ l) (lone_of (filter_map plain_column outs) by)
 
   pub groups_of_form : (items : List RawItem) (form : RawForm) → groups_found_refused (list_found schemas items form).outs (map (with_column schemas) (by_of form)) ≡ groups_refused schemas (outs_of form) (by_of form)
   groups_of_form items forms.Plain = refl

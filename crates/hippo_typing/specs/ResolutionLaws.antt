@@ -9,19 +9,19 @@ use Rattle.hippo_model.specs.Terms.{History, Meaning}
 use Rattle.hippo_model.specs.Validity.{is_purpose, is_recipient, creates_table, may_follow, is_valid}
 use Rattle.hippo_typing_catalog.specs.declared.period.Period.{Period}
 use Rattle.hippo_typing_catalog.specs.AuditExpressions.{audit_refused, audit_of}
-use Rattle.hippo_typing_catalog.specs.Catalogs.{known_at, known_after, table_of, has_purpose, has_recipient, item_of, creates_anew}
+use Rattle.hippo_typing_catalog.specs.Catalogs.{known_at, known_after, table_of, has_purpose, has_recipient, item_of, creates_new_names}
 use Rattle.hippo_typing_catalog.specs.Selects.{select_refused, query_of}
 
 -- a select that is not refused after some entries means the same query after more entries
-abbrev pub SelectsLast : Type 0
-SelectsLast =
+abbrev pub SelectsKeepMeaning : Type 0
+SelectsKeepMeaning =
     (history later : History) (select : RawSelect) → select_refused (known_at history) select ≡ []
     → (select_refused (known_at (history ++ later)) select ≡ [])
     × (query_of (known_at (history ++ later)) select ≡ query_of (known_at history) select)
 
 -- so does an audit expression
-abbrev pub AuditsLast : Type 0
-AuditsLast =
+abbrev pub AuditsKeepMeaning : Type 0
+AuditsKeepMeaning =
     (history later : History) (period : Period) (audit : RawAudit)
     → audit_refused (known_at history) period audit ≡ []
     → (audit_refused (known_at (history ++ later)) period audit ≡ [])
@@ -54,4 +54,5 @@ ValidNames =
 abbrev pub EntriesCreateAnew : Type 0
 EntriesCreateAnew =
     (meaning : Meaning) (history : History) (entry : Entry) → is_valid meaning history ≡ true
-    → may_follow meaning history entry ≡ true → creates_anew (known_at history) entry.act ≡ true
+    → may_follow meaning history entry ≡ true
+    → creates_new_names (known_at history) entry.act ≡ true

@@ -3,7 +3,7 @@ ghost use Rattle.std.specs.Prelude.{◌≡◌, List, ◌++◌, map, flat_map};
 ghost use Rattle.std.specs.Prelude.{unwrap_or, option_copied, option_to_list, MatchResult};
 ghost use Rattle.hippo_model.specs.declared.query.Ref.{Ref as Reference};
 ghost use Rattle.hippo_typing_catalog.specs.Refusals.{Resolves, IsFirstOf};
-ghost use Rattle.hippo_typing_catalog.specs.WrittenColumns.{may_stand_in, home_in, homes_refused, column_refused, column_of};
+ghost use Rattle.hippo_typing_catalog.specs.WrittenColumns.{may_belong_to, home_in, homes_refused, column_refused, column_of};
 ghost use Rattle.hippo_typing.specs.Found.{with_column};
 
 use crate::found::{Found, FoundColumns};
@@ -15,8 +15,8 @@ use hippo_values::{Name, Sequence};
 use std::alloc::Global;
 
 /// Whether a column with this qualifier, or without one, may belong to the table.
-pub fn may_stand_in(qualifier: Option<&Name>, table: &Name) -> bool
-    ensures { result ≡ may_stand_in (option_copied qualifier.entry) table.now }
+pub fn may_belong_to(qualifier: Option<&Name>, table: &Name) -> bool
+    ensures { result ≡ may_belong_to (option_copied qualifier.entry) table.now }
 {
     match qualifier {
         None => true,
@@ -28,7 +28,7 @@ pub fn may_stand_in(qualifier: Option<&Name>, table: &Name) -> bool
 fn home_in(written: &RawColumn, place: usize, table: &IndexedTable) -> Option<Ref>
     ensures { result ≡ home_in written.now place table.now }
 {
-    if !may_stand_in(written.table.as_ref(), &table.schema().name) {
+    if !may_belong_to(written.table.as_ref(), &table.schema().name) {
         return None;
     }
     let column = table.place(&written.column)?;

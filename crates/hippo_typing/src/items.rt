@@ -3,10 +3,10 @@ ghost use Rattle.std.specs.Prelude.{◌≡◌, [], ◌∷◌, ◌++◌, map, fla
 ghost use Rattle.std.specs.Prelude.{bytes_eq, option_copied, if◌then◌else◌, OnOk, MatchResult};
 ghost use Rattle.std.specs.List.{list_any, range_with_len};
 ghost use Rattle.hippo_typing_catalog.specs.Refusals.{Resolves, IsFirstOf};
-ghost use Rattle.hippo_typing_catalog.specs.WrittenColumns.{column_refused, column_of, may_stand_in};
+ghost use Rattle.hippo_typing_catalog.specs.WrittenColumns.{column_refused, column_of, may_belong_to};
 ghost use Rattle.hippo_typing_catalog.specs.Selects.{item_refused, item_columns, star_refused, star_columns, table_columns};
 
-use crate::columns::{found_column, may_stand_in};
+use crate::columns::{found_column, may_belong_to};
 use hippo_model::{NameFault, Ref, Refs};
 use hippo_stmt_ast::{RawColumn, RawItem};
 use hippo_typing_catalog::{IndexedTable, StatementTables, column_faults};
@@ -35,11 +35,11 @@ fn push_starred(
     columns: &mut Refs,
 ) -> Result<(), Memory>
     ensures { OnOk result (columns.new ≡ columns.old
-        ++ (if may_stand_in (option_copied qualifier.entry) table.now.name
+        ++ (if may_belong_to (option_copied qualifier.entry) table.now.name
         then table_columns place table.now else [])) }
 {
     let schema = table.schema();
-    if may_stand_in(qualifier, &schema.name) {
+    if may_belong_to(qualifier, &schema.name) {
         push_table(columns, place, schema.columns.len())?;
     }
     Ok(())

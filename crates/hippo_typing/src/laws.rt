@@ -1,15 +1,15 @@
 //! Laws on the names of a history, and on what statements mean after some entries. Each law is the
 //! contract of a function that does nothing.
-ghost use Rattle.hippo_typing.specs.ResolutionLaws.{SelectsLast, AuditsLast, NamesGrow, ValidNames, EntriesCreateAnew};
+ghost use Rattle.hippo_typing.specs.ResolutionLaws.{SelectsKeepMeaning, AuditsKeepMeaning, NamesGrow, ValidNames, EntriesCreateAnew};
 
 /// A select that is not refused means the same query after more entries.
 pub fn selects_last()
-    ensures { SelectsLast }
+    ensures { SelectsKeepMeaning }
 {}
 
 /// An audit expression that is not refused means the same audit after more entries.
 pub fn audits_last()
-    ensures { AuditsLast }
+    ensures { AuditsKeepMeaning }
 {}
 
 /// The names of a history are those of the history before its last entry, with what that entry

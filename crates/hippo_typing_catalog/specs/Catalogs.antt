@@ -73,9 +73,9 @@ abbrev pub schemas_of : KnownNames → List Name → List Schema
 schemas_of known tables = filter_map (table_of known) tables
 
 -- whether an act creates no name that already exists
-abbrev pub creates_anew : KnownNames → Act → Bool
-creates_anew known (Create schema) = is_none (table_of known schema.name)
-creates_anew known (Purpose purpose) = not (has_purpose known purpose)
-creates_anew known (Recipient recipient) = not (has_recipient known recipient)
-creates_anew known (Item item kind) = is_none (item_of known item)
-creates_anew known act = true
+abbrev pub creates_new_names : KnownNames → Act → Bool
+creates_new_names known (Create schema) = is_none (table_of known schema.name)
+creates_new_names known (Purpose purpose) = not (has_purpose known purpose)
+creates_new_names known (Recipient recipient) = not (has_recipient known recipient)
+creates_new_names known (Item item kind) = is_none (item_of known item)
+creates_new_names known act = true

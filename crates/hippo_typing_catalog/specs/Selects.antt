@@ -22,7 +22,7 @@ use Rattle.hippo_stmt_ast.specs.declared.statement.RawSelect.{RawSelect}
 use Rattle.hippo_model.specs.Terms.{Place}
 use Rattle.hippo_typing_catalog.specs.Catalogs.{KnownNames, schemas_of}
 use Rattle.hippo_typing_catalog.specs.Refusals.{fault_if, unknown_table, repeated_names}
-use Rattle.hippo_typing_catalog.specs.WrittenColumns.{may_stand_in, column_refused, column_of}
+use Rattle.hippo_typing_catalog.specs.WrittenColumns.{may_belong_to, column_refused, column_of}
 use Rattle.hippo_typing_catalog.specs.Comparisons.{operands_refused, condition_of, kinds_refused, texts_refused}
 use Rattle.hippo_values.specs.Limits.{from_limit, item_limit}
 use Rattle.hippo_typing_catalog.specs.StatementLimits.{too_many}
@@ -78,8 +78,8 @@ abbrev pub same_reference : Ref → Ref → Bool
 same_reference a b = a.table == b.table && a.column == b.column
 
 -- a column that is not among the others
-abbrev pub lone_column : List Schema → List RawColumn → RawColumn → List NameFault
-lone_column schemas others written =
+abbrev pub ungrouped_column : List Schema → List RawColumn → RawColumn → List NameFault
+ungrouped_column schemas others written =
     fault_if (not (list_any (same_reference (column_of schemas written))
     (map (column_of schemas) others)))
     (NotGrouped written.column)
@@ -87,8 +87,8 @@ lone_column schemas others written =
 -- the list's columns must be those of GROUP BY, and the other way round
 abbrev pub groups_refused : List Schema → List RawOut → List RawColumn → List NameFault
 groups_refused schemas outs by =
-    flat_map (lone_column schemas by) (filter_map plain_column outs)
-    ++ flat_map (lone_column schemas (filter_map plain_column outs)) by
+    flat_map (ungrouped_column schemas by) (filter_map plain_column outs)
+    ++ flat_map (ungrouped_column schemas (filter_map plain_column outs)) by
 
 -- the limits: four tables, and 128 members of each list
 abbrev pub select_parts_refused : RawSelect → List NameFault
@@ -116,7 +116,7 @@ table_columns place schema =
 -- the columns of the tables that a star covers
 abbrev pub star_columns : List Schema → Option Name → List Ref
 star_columns schemas qualifier =
-    flat_map (λ (place, schema). if may_stand_in qualifier schema.name
+    flat_map (λ (place, schema). if may_belong_to qualifier schema.name
     then table_columns place schema else [])
     (enumerate_from 0 schemas)
 

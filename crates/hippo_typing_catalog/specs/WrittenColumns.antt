@@ -22,20 +22,20 @@ column_text written =
     option_map_or (λ table. table ++ codes "." ++ written.column) written.table written.column
 
 -- whether a column with this qualifier, or without one, may belong to the table
-abbrev pub may_stand_in : Option Name → Name → Bool
-may_stand_in None table = true
-may_stand_in (Some qualifier) table = bytes_eq qualifier table
+abbrev pub may_belong_to : Option Name → Name → Bool
+may_belong_to None table = true
+may_belong_to (Some qualifier) table = bytes_eq qualifier table
 
 -- the column of this table that a written column may name
 abbrev pub home_in : RawColumn → Place → Schema → Option Ref
 home_in written place schema =
-    if may_stand_in written.table schema.name
+    if may_belong_to written.table schema.name
     then option_map (λ column. record { table = place; column = column })
     (place_of schema written.column) else None
 
 -- the columns of the statement's tables that a written column may name
-abbrev pub homes : List Schema → RawColumn → List Ref
-homes schemas written =
+abbrev pub candidate_columns : List Schema → RawColumn → List Ref
+candidate_columns schemas written =
     filter_map (λ (place, schema). home_in written place schema) (enumerate_from 0 schemas)
 
 -- there must be exactly one
@@ -45,12 +45,12 @@ homes_refused written (home ∷ []) = []
 homes_refused written (home ∷ other ∷ rest) = AmbiguousColumn written.column ∷ []
 
 abbrev pub column_refused : List Schema → RawColumn → List NameFault
-column_refused schemas written = homes_refused written (homes schemas written)
+column_refused schemas written = homes_refused written (candidate_columns schemas written)
 
 -- the column that a written column names
 abbrev pub column_of : List Schema → RawColumn → Ref
 column_of schemas written =
-    unwrap_or (slice_get (homes schemas written) 0) (record { table = 0; column = 0 })
+    unwrap_or (slice_get (candidate_columns schemas written) 0) (record { table = 0; column = 0 })
 
 -- a column of a statement's tables, from its schema
 abbrev pub column_at : List Schema → Ref → Option Column

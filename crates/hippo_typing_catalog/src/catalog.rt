@@ -4,7 +4,7 @@ ghost use Rattle.std.specs.Prelude.{is_none, option_copied, option_map, slice_ge
 ghost use Rattle.indexmap.specs.IndexMap.{get};
 ghost use Rattle.hippo_model.specs.declared.entry.Act.TheVariants.{Create, Purpose, Recipient, Item};
 ghost use Rattle.hippo_model.specs.declared.entry.Act.{Act as HistoryAct};
-ghost use Rattle.hippo_typing_catalog.specs.Catalogs.{KnownNames, known_at, known_after, creates_anew};
+ghost use Rattle.hippo_typing_catalog.specs.Catalogs.{KnownNames, known_at, known_after, creates_new_names};
 ghost use Rattle.hippo_typing_catalog.specs.Catalogs.{table_of, has_purpose, has_recipient, item_of};
 ghost use Rattle.hippo_typing_catalog.specs.declared.catalog.Newest.TheVariants as Newest;
 ghost use Rattle.hippo_typing_catalog.specs.NewestNames.{RemembersNames, creates_nothing, known_before};
@@ -130,7 +130,7 @@ impl Catalog {
     }
 
     fn add_table(&mut self, alloc: Global, schema: &Schema) -> Result<(), Memory>
-        requires { creates_anew self.old.names (Create schema.now) ≡ true }
+        requires { creates_new_names self.old.names (Create schema.now) ≡ true }
         ensures names { OnOk result (self.new.names
             ≡ known_after self.old.names (Create schema.now)) }
         ensures newest { OnOk result (RemembersNames self.new.newest (Create schema.now)) }
@@ -144,7 +144,7 @@ impl Catalog {
     }
 
     fn add_purpose(&mut self, alloc: Global, purpose: &Name) -> Result<(), Memory>
-        requires { creates_anew self.old.names (Purpose purpose.now) ≡ true }
+        requires { creates_new_names self.old.names (Purpose purpose.now) ≡ true }
         ensures names { OnOk result (self.new.names
             ≡ known_after self.old.names (Purpose purpose.now)) }
         ensures newest { OnOk result (RemembersNames self.new.newest (Purpose purpose.now)) }
@@ -157,7 +157,7 @@ impl Catalog {
     }
 
     fn add_recipient(&mut self, alloc: Global, recipient: &Name) -> Result<(), Memory>
-        requires { creates_anew self.old.names (Recipient recipient.now) ≡ true }
+        requires { creates_new_names self.old.names (Recipient recipient.now) ≡ true }
         ensures names { OnOk result (self.new.names
             ≡ known_after self.old.names (Recipient recipient.now)) }
         ensures newest { OnOk result (RemembersNames self.new.newest (Recipient recipient.now)) }
@@ -170,7 +170,7 @@ impl Catalog {
     }
 
     fn add_item(&mut self, alloc: Global, item: &Name, kind: ItemKind) -> Result<(), Memory>
-        requires { creates_anew self.old.names (Item item.now kind) ≡ true }
+        requires { creates_new_names self.old.names (Item item.now kind) ≡ true }
         ensures names { OnOk result (self.new.names
             ≡ known_after self.old.names (Item item.now kind)) }
         ensures newest { OnOk result (RemembersNames self.new.newest (Item item.now kind)) }
@@ -186,7 +186,7 @@ impl Catalog {
     /// stands for the history with this entry. Fails only when out of memory, and the catalog is
     /// then unchanged. It never runs out of memory for a Delete.
     pub fn add(&mut self, alloc: Global, entry: &Entry) -> Result<(), Memory>
-        requires { creates_anew self.old.names entry.now.act ≡ true }
+        requires { creates_new_names self.old.names entry.now.act ≡ true }
         ensures names { OnOk result (self.new.names ≡ known_after self.old.names entry.now.act) }
         ensures newest { OnOk result (RemembersNames self.new.newest entry.now.act) }
         ensures err { OnErr result (self.new ≡ self.old) }

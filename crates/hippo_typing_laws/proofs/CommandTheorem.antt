@@ -18,7 +18,7 @@ use Rattle.hippo_lexer.specs.declared.faults.SyntaxFault.{SyntaxFault}
 use Rattle.hippo_lexer.specs.declared.kinds.Token.{Token}
 use Rattle.hippo_stmt_lines.specs.Forms.{Request, Form, says_nothing, sets_clock, makes_request, makes_statement, short_word_of, request_by, form_in, form_with, session_form, at_of, is_silent, form_by, line_form}
 use Rattle.hippo_stmt_lines.specs.Numbers.{numeral_value}
-use Rattle.hippo_stmt_lines.specs.Words.{words_of, around_space, only}
+use Rattle.hippo_stmt_lines.specs.Words.{words_of, split_at_space, only}
 use Rattle.hippo_stmt_lines.specs.declared.short_words.ShortWord.{ShortWord}
 use Rattle.hippo_stmt_lines.proofs.FormLemmas.{makes_statement-within}
 use Rattle.hippo_stmt_ast.specs.declared.statement.Stmt.{Stmt}
@@ -85,7 +85,7 @@ line_states line text session found = by_silence (is_silent line) found
     by_space false there e = let nothing : None ≡ Some (makes_statement session text) = e in absurd cc
     by_space true there e = record { some = ltb-true _ _ there; rest = after_first_word session (before_first is_space line) (after_first is_space line) text e }
 
-    by_silence : (silent : Bool) → States session text (if silent then Some says_nothing else (around_space line >>= λ (first, rest). form_by first rest)) → IsRestOf line text
+    by_silence : (silent : Bool) → States session text (if silent then Some says_nothing else (split_at_space line >>= λ (first, rest). form_by first rest)) → IsRestOf line text
     by_silence true e = let other : Some says_nothing ≡ Some (makes_statement session text) = e in absurd cc
     by_silence false e = by_space (nat_lt (position_or_len is_space line) (length line)) refl e
 

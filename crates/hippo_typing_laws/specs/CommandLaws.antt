@@ -11,7 +11,7 @@ use Rattle.hippo_typing_laws.specs.Written.{is_written}
 
 -- a statement is well formed and is part of a UTF-8 text that is shorter than its line; a question
 -- in it can be read on its own
-pub record StandsInLine (line : Txt) (statement : Stmt) (text : Txt) : Type 0 where
+pub record IsPartOfLine (line : Txt) (statement : Stmt) (text : Txt) : Type 0 where
   pub written : is_written statement ≡ true
   pub utf8 : IsUtf8 text
   pub shorter : length text < length line
@@ -24,4 +24,4 @@ abbrev pub CommandsAreWritten : Type 0
 CommandsAreWritten =
     (line : Txt) (who : Speaker) (statement : Stmt) (text : Txt) → IsUtf8 line
     → command_of (text_line line) ≡ make_statement who statement text
-    → StandsInLine line statement text
+    → IsPartOfLine line statement text

@@ -18,7 +18,7 @@ abbrev pub KeepsFront : List ℕ → List ℕ → Type 0
 KeepsFront old new = take (length old) new ≡ old
 
 -- a text is appended to the old one; the old text stays a prefix even if the call fails
-pub record AddsText {A E : Type 0} (text : List ℕ) (result : Result A E) (old new : List ℕ)
+pub record AppendsText {A E : Type 0} (text : List ℕ) (result : Result A E) (old new : List ℕ)
     : Type 0 where
   pub ok : OnOk result (new ≡ old ++ text)
   pub err : OnErr result (KeepsFront old new)

@@ -3,7 +3,7 @@ ghost use Rattle.std.specs.Prelude.{◌≡◌, ◌+◌, ◌≤◌, ◌++◌, len
 ghost use Rattle.std.specs.Fmt.{signed_decimal};
 ghost use Rattle.std.specs.List.{list_any};
 ghost use Rattle.hippo_values_text.specs.Dates.{day_text};
-ghost use Rattle.hippo_values_text.specs.Printing.{value_text, AddsText};
+ghost use Rattle.hippo_values_text.specs.Printing.{value_text, AppendsText};
 ghost use Rattle.hippo_values_text.specs.Quoting.{is_quote, doubled_quotes, quoted_text};
 
 use crate::dates;
@@ -11,7 +11,7 @@ use hippo_values::{DayNumber, Memory, RoomyTxt, Value};
 use itoa::Buffer;
 
 fn append_integer<const ROOM: usize>(number: i64, out: &mut RoomyTxt<ROOM>) -> Result<(), Memory>
-    ensures adds { AddsText (signed_decimal number) result out.old out.new }
+    ensures adds { AppendsText (signed_decimal number) result out.old out.new }
     ensures room { length out.old + length (signed_decimal number) ≤ ROOM → IsOk result }
 {
     out.append(Buffer::new().format(number))
@@ -26,7 +26,7 @@ fn has_quote(text: &str) -> bool
 
 // Appends a text with each quote doubled, one piece up to each quote at a time.
 fn append_by_quotes<const ROOM: usize>(text: &str, out: &mut RoomyTxt<ROOM>) -> Result<(), Memory>
-    ensures adds { AddsText (doubled_quotes text.now) result out.old out.new }
+    ensures adds { AppendsText (doubled_quotes text.now) result out.old out.new }
     ensures room { length out.old + length (doubled_quotes text.now) ≤ ROOM → IsOk result }
 {
     let mut rest = text;
@@ -40,7 +40,7 @@ fn append_by_quotes<const ROOM: usize>(text: &str, out: &mut RoomyTxt<ROOM>) -> 
 
 // Appends a text with each quote doubled. A text without quotes is appended whole, which is faster.
 fn append_doubled<const ROOM: usize>(text: &str, out: &mut RoomyTxt<ROOM>) -> Result<(), Memory>
-    ensures adds { AddsText (doubled_quotes text.now) result out.old out.new }
+    ensures adds { AppendsText (doubled_quotes text.now) result out.old out.new }
     ensures room { length out.old + length (doubled_quotes text.now) ≤ ROOM → IsOk result }
 {
     if has_quote(text) {
@@ -51,7 +51,7 @@ fn append_doubled<const ROOM: usize>(text: &str, out: &mut RoomyTxt<ROOM>) -> Re
 }
 
 fn append_quoted<const ROOM: usize>(text: &str, out: &mut RoomyTxt<ROOM>) -> Result<(), Memory>
-    ensures adds { AddsText (quoted_text text.now) result out.old out.new }
+    ensures adds { AppendsText (quoted_text text.now) result out.old out.new }
     ensures room { length out.old + length (quoted_text text.now) ≤ ROOM → IsOk result }
 {
     out.push('\'')?;
@@ -60,7 +60,7 @@ fn append_quoted<const ROOM: usize>(text: &str, out: &mut RoomyTxt<ROOM>) -> Res
 }
 
 fn append_day<const ROOM: usize>(day: DayNumber, out: &mut RoomyTxt<ROOM>) -> Result<(), Memory>
-    ensures adds { AddsText (day_text day) result out.old out.new }
+    ensures adds { AppendsText (day_text day) result out.old out.new }
     ensures room { length out.old + length (day_text day) ≤ ROOM → IsOk result }
 {
     match str::from_utf8(&dates::day_text(day)) {
@@ -77,7 +77,7 @@ pub fn append_value<const ROOM: usize>(
     value: &Value,
     out: &mut RoomyTxt<ROOM>,
 ) -> Result<(), Memory>
-    ensures adds { AddsText (value_text value.now) result out.old out.new }
+    ensures adds { AppendsText (value_text value.now) result out.old out.new }
     ensures room { length out.old + length (value_text value.now) ≤ ROOM → IsOk result }
 {
     match value {

@@ -6,7 +6,7 @@ ghost use Rattle.hippo_model.specs.Verdicts.{context_of};
 ghost use Rattle.hippo_tables.specs.Standing.{AreKeptTables};
 ghost use Rattle.hippo_watch.specs.Alarms.{AreOfSome, ServesNow, SharesNext};
 
-use crate::present::are_at_hand;
+use crate::present::tables_exist;
 use hippo_audit_job::{Past, in_period, is_exempt, names_all};
 use hippo_audit_needs::shared_of;
 use hippo_model::{Audit, Pair, Query, SharedTuple};
@@ -85,7 +85,7 @@ pub(crate) fn alarm(
     if !is_candidate(asked, audit) {
         return Ok(None);
     }
-    if !are_at_hand(asked.tables, asked.query, audit) {
+    if !tables_exist(asked.tables, asked.query, audit) {
         return Ok(None);
     }
     first_kept(alloc, asked, audit)

@@ -29,7 +29,7 @@ fn are_kept(tables: &Tables, names: &[Name]) -> bool
 }
 
 /// Whether the tables of an audit and of a query exist.
-pub(crate) fn are_at_hand(tables: &Tables, query: &Query, audit: &Audit) -> bool
+pub(crate) fn tables_exist(tables: &Tables, query: &Query, audit: &Audit) -> bool
     ensures { (history : History) → TablesStandFor tables.now history
         → result ≡ (are_created history audit.now.tables && are_created history query.now.tables) }
 {

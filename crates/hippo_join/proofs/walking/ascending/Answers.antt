@@ -1,6 +1,6 @@
 -- Places are sorted, and duplicates are removed.
 use Rattle.std.proofs.Common.{List, ℕ, eqb, sym, subst}
-use Rattle.hippo_join_stages.specs.Walking.{following_places}
+use Rattle.hippo_join_stages.specs.Walking.{candidate_places}
 use Rattle.std.specs.List.{All, Contains}
 use Rattle.std.specs.List.Sorted.{IsStrictlyIncreasing}
 use Rattle.std.proofs.lemmas.List.Elements.{All-contains_itself}
@@ -25,7 +25,7 @@ returns-clause-all c = λ place has.
 pub returns-clause-none_else : goal.returns-clause-none_else
 returns-clause-none_else c =
     let sorted = c.sort_unstable.new.self.items in
-    let Has = Contains (following_places c.args.following.now) in
-    let own = subst (λ (places : List ℕ). All Has places) (sym c.in_ok-places.ensures) (All-contains_itself (following_places c.args.following.now)) in
+    let Has = Contains (candidate_places c.args.following.now) in
+    let own = subst (λ (places : List ℕ). All Has places) (sym c.in_ok-places.ensures) (All-contains_itself (candidate_places c.args.following.now)) in
     subst (λ (places : List ℕ). All Has places) (sym (dedup_is eqb sorted c.dedup.new.self.items c.dedup.ensures.filtered))
     (All-dedup eqb Has sorted (All-permutation Has c.in_ok-places.places.items sorted c.sort_unstable.ensures.permutation own))

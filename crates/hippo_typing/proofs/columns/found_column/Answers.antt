@@ -5,7 +5,7 @@ use Rattle.hippo_model.specs.declared.query.Ref.{Ref}
 use Rattle.hippo_model.specs.declared.schema.Schema.{Schema}
 use Rattle.hippo_stmt_ast.specs.declared.statement.RawColumn.{RawColumn}
 use Rattle.hippo_typing_catalog.specs.Refusals.{IsFirstOf}
-use Rattle.hippo_typing_catalog.specs.WrittenColumns.{home_in, homes, homes_refused, column_refused}
+use Rattle.hippo_typing_catalog.specs.WrittenColumns.{home_in, candidate_columns, homes_refused, column_refused}
 use Rattle.hippo_typing_catalog.proofs.ListLemmas.{filter_map_at_item}
 use Rattle.hippo_typing.proofs.columns.found_column.Goals as goal
 
@@ -15,8 +15,8 @@ homes_from written tables place = filter_map (λ (place, schema). home_in writte
 
 -- the columns found before a table, in it and after it are all that a column may name
 one_more : (written : RawColumn) (tables : List Schema) (place : ℕ) (schema : Schema) (home : Option Ref) → slice_get tables place ≡ Some schema →
-    option_to_list home ++ homes_from written tables place ≡ homes tables written →
-    option_to_list home ++ option_to_list (home_in written place schema) ++ homes_from written tables (place + 1) ≡ homes tables written
+    option_to_list home ++ homes_from written tables place ≡ candidate_columns tables written →
+    option_to_list home ++ option_to_list (home_in written place schema) ++ homes_from written tables (place + 1) ≡ candidate_columns tables written
 one_more written tables place schema home is so_far =
     append_assoc (option_to_list home) (option_to_list (home_in written place schema)) (homes_from written tables (place + 1))
     ∙ ap (λ l. option_to_list home ++ l) (sym (filter_map_at_item (λ (place, schema). home_in written place schema) tables place schema is))

@@ -3,7 +3,7 @@ use Rattle.std.specs.Prelude.{if◌then◌else◌}
 use Rattle.std.specs.List.{flat_map, enumerate_from}
 use Rattle.hippo_model.specs.declared.query.Ref.{Ref}
 use Rattle.hippo_model.specs.declared.schema.Schema.{Schema}
-use Rattle.hippo_typing_catalog.specs.WrittenColumns.{may_stand_in}
+use Rattle.hippo_typing_catalog.specs.WrittenColumns.{may_belong_to}
 use Rattle.hippo_typing_catalog.specs.Selects.{table_columns, star_columns}
 use Rattle.hippo_typing_catalog.proofs.ListLemmas.{flat_map_at_item, one_more}
 use Rattle.hippo_typing.proofs.items.push_star.Goals as goal
@@ -12,7 +12,7 @@ pub loop-place-preserved : goal.loop-place-preserved
 loop-place-preserved c =
     let place : ℕ = c.loop-place.place in
     let tables : List Schema = c.args.tables.now in
-    let starred : ℕ × Schema → List Ref = λ (p, schema). if may_stand_in (option_copied c.args.qualifier) schema.name then table_columns p schema else [] in
+    let starred : ℕ × Schema → List Ref = λ (p, schema). if may_belong_to (option_copied c.args.qualifier) schema.name then table_columns p schema else [] in
     let rest : List Ref = flat_map starred (enumerate_from (place + 1) (drop (place + 1) tables)) in
     let all : List Ref = c.args.columns.now ++ star_columns tables (option_copied c.args.qualifier) in
     let step : c.loop-place.columns ++ (starred (place, c.get.result.now) ++ rest) ≡ all =

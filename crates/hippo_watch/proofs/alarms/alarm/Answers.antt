@@ -9,16 +9,16 @@ use Rattle.hippo_watch.proofs.alarms.alarm.Goals as goal
 pub returns-then-not-is_candidate : goal.returns-then-not-is_candidate
 returns-then-not-is_candidate c = shares_nothing c.args.asked.now c.args.audit.now (sym c.is_candidate.ensures ∙ c.if-not-is_candidate.true)
 
-pub returns-then-not-are_at_hand : goal.returns-then-not-are_at_hand
-returns-then-not-are_at_hand c =
+pub returns-then-not-tables_exist : goal.returns-then-not-tables_exist
+returns-then-not-tables_exist c =
     shares_first c.args.asked.now c.args.audit.now (sym c.is_candidate.ensures ∙ c.if-not-is_candidate.false) _
-    (nothing_missing c.args.asked.now c.args.audit.now _ c.are_at_hand.ensures c.if-not-are_at_hand.true)
+    (nothing_missing c.args.asked.now c.args.audit.now _ c.tables_exist.ensures c.if-not-tables_exist.true)
 
 pub first_kept-requires-clause-query : goal.first_kept-requires-clause-query
-first_kept-requires-clause-query c = query_kept c.args.asked.now c.args.audit.now _ c.are_at_hand.ensures c.requires.some c.if-not-are_at_hand.false
+first_kept-requires-clause-query c = query_kept c.args.asked.now c.args.audit.now _ c.tables_exist.ensures c.requires.some c.if-not-tables_exist.false
 
 pub first_kept-requires-clause-audit : goal.first_kept-requires-clause-audit
-first_kept-requires-clause-audit c = audit_kept c.args.asked.now c.args.audit.now _ c.are_at_hand.ensures c.requires.some c.if-not-are_at_hand.false
+first_kept-requires-clause-audit c = audit_kept c.args.asked.now c.args.audit.now _ c.tables_exist.ensures c.requires.some c.if-not-tables_exist.false
 
 pub returns : goal.returns
 returns c =

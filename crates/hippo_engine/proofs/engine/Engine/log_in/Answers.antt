@@ -16,5 +16,5 @@ returns-in-Ok c = λ command does.
 pub returns-in-Err : goal.returns-in-Err
 returns-in-Err c = λ command does.
     let old : Engine = c.args.self.now in
-    quiet_short command (Session c.args.session) old (record { state = old.state; world = c.log_in.new.self; reply = c.refuse_for_memory.new.reply }) does.0 does.1 refl c.in-Err.ensures.err
-    c.refuse_for_memory.ensures
+    quiet_short command (Session c.args.session) old (record { state = old.state; world = c.log_in.new.self; reply = c.refuse_out_of_memory.new.reply }) does.0 does.1 refl c.in-Err.ensures.err
+    c.refuse_out_of_memory.ensures

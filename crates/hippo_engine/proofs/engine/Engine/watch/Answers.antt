@@ -10,5 +10,5 @@ returns-in-Ok c = λ command is.
 
 pub returns-in-Err : goal.returns-in-Err
 returns-in-Err c = λ command is.
-    watch_short command c.args.number c.args.audit c.args.self.now (record { state = c.args.self.now.state; world = c.args.self.now.world; reply = c.refuse_for_memory.new.reply })
-    is refl refl c.refuse_for_memory.ensures
+    watch_short command c.args.number c.args.audit c.args.self.now (record { state = c.args.self.now.state; world = c.args.self.now.world; reply = c.refuse_out_of_memory.new.reply })
+    is refl refl c.refuse_out_of_memory.ensures

@@ -7,7 +7,7 @@ use Rattle.hippo_model.specs.Terms.{Place}
 use Rattle.hippo_join_lookups.specs.Places.{are_there, stays}
 use Rattle.hippo_join_lookups.proofs.SlotLemmas.{length-rows_at}
 use Rattle.hippo_join_stages.specs.Visiting.{Completes}
-use Rattle.hippo_join_stages.specs.Walking.{following_places, IsWalkable}
+use Rattle.hippo_join_stages.specs.Walking.{candidate_places, IsWalkable}
 use Rattle.hippo_join_stages.proofs.FindingLemmas.{all-first, open-within, still-open, within-set}
 use Rattle.hippo_join.specs.Walked.{join_of}
 use Rattle.hippo_join.proofs.VisitingLemmas.{Tried, counts-again, has-at, none-counted, none-left, none-there, next-on, on-again, on-closed, on-same, on-with, visited-none, visited-more, visited-all, visited-enough}
@@ -84,7 +84,7 @@ walk_each-walk_with-requires g t c κs within =
     let same = c.loop-index.invariant.same in
     let inside = within-set c.args.slots.now c.loop-index.slots c.args.stage.now.table (open-within c.args.slots.now c.args.stage.now.table c.requires.still) same in
     let choices = g.C.ChoiceView.choices c.args.self.now.side.now.choices.now in
-    let some = following_places c.args.following.now in
+    let some = candidate_places c.args.following.now in
     (omega arith, (within.0, (within.1.0, (within.1.1, (inside, (λ yes. counts-again choices c.args.self.now.side.now.query.now c.args.self.now.side.now.sets.now c.args.slots.now c.loop-index.slots c.args.stage.now.table c.place-place.result same (c.requires.follow.count c.requires.still yes c.place-place.result (has-at some c.loop-index.index c.place-place.result (omega (arith, c.loop-index-test.true, c.len-index-end.ensures)) c.place-place.ensures)), on-again _ c.args.stage.now c.args.rest.now c.args.slots.now c.args.rows.now c.requires.can c.loop-index.slots c.loop-index.rows same c.loop-index.invariant.stand))))))
 
 pub walk_each-loop-index-init : goal.walk_each-loop-index-init
@@ -94,20 +94,20 @@ walk_each-loop-index-init g t c =
       same = still-open c.args.slots.now c.args.stage.now.table c.requires.still;
       stand = c.requires.can.stand;
       so_far = λ front before kept.
-          visited-none (g.V.PlaceVisitor.Keeps c.args.self.now.visitor.now join.sets front) join.in_order (Tried join.choices join.query join.sets c.args.slots.now c.args.stage.now.table (following_places c.args.following.now) 0) before c.args.state.now
+          visited-none (g.V.PlaceVisitor.Keeps c.args.self.now.visitor.now join.sets front) join.in_order (Tried join.choices join.query join.sets c.args.slots.now c.args.stage.now.table (candidate_places c.args.following.now) 0) before c.args.state.now
           (λ places tried. absurd (omega (arith, tried.lower))) kept;
     }
 
 pub walk_each-loop-index-preserved : goal.walk_each-loop-index-preserved
 walk_each-loop-index-preserved g t c =
     let join = join_of g.C.ChoiceView.choices c.args.self.now in
-    let next = next-on join c.args.stage.now c.args.rest.now c.args.slots.now c.args.rows.now c.requires.can (following_places c.args.following.now) c.requires.still c.requires.follow.reaches c.requires.follow.order in
+    let next = next-on join c.args.stage.now c.args.rest.now c.args.slots.now c.args.rows.now c.requires.can (candidate_places c.args.following.now) c.requires.still c.requires.follow.reaches c.requires.follow.order in
     record {
       same = c.in_ok-onward.ensures.slots ∙ c.loop-index.invariant.same;
       stand = c.in_ok-onward.ensures.stand;
       so_far = λ front before kept.
           let so_far = c.loop-index.invariant.so_far front before kept in
-          visited-more (g.V.PlaceVisitor.Keeps c.args.self.now.visitor.now join.sets front) join.in_order join.choices join.query join.sets c.args.slots.now c.args.stage.now.table (following_places c.args.following.now) next
+          visited-more (g.V.PlaceVisitor.Keeps c.args.self.now.visitor.now join.sets front) join.in_order join.choices join.query join.sets c.args.slots.now c.args.stage.now.table (candidate_places c.args.following.now) next
           c.loop-index.index before c.loop-index.state so_far (omega (arith, c.loop-index-test.true, c.len-index-end.ensures)) c.loop-index.slots c.place-place.result c.loop-index.invariant.same c.place-place.ensures
           c.in_ok-onward.onward c.walk_with.new.state (c.in_ok-onward.ensures.kept front (before ++ so_far.all) so_far.kept);
     }
@@ -115,13 +115,13 @@ walk_each-loop-index-preserved g t c =
 pub walk_each-returns-in-Enough : goal.walk_each-returns-in-Enough
 walk_each-returns-in-Enough g t c =
     let join = join_of g.C.ChoiceView.choices c.args.self.now in
-    let next = next-on join c.args.stage.now c.args.rest.now c.args.slots.now c.args.rows.now c.requires.can (following_places c.args.following.now) c.requires.still c.requires.follow.reaches c.requires.follow.order in
+    let next = next-on join c.args.stage.now c.args.rest.now c.args.slots.now c.args.rows.now c.requires.can (candidate_places c.args.following.now) c.requires.still c.requires.follow.reaches c.requires.follow.order in
     record {
       slots = c.in_ok-onward.ensures.slots ∙ c.loop-index.invariant.same ∙ sym (still-open c.args.slots.now c.args.stage.now.table c.requires.still);
       stand = c.in_ok-onward.ensures.stand;
       kept = λ front before kept.
           let so_far = c.loop-index.invariant.so_far front before kept in
-          visited-enough (g.V.PlaceVisitor.Keeps c.args.self.now.visitor.now join.sets front) join.in_order join.choices join.query join.sets c.args.slots.now c.args.stage.now.table (following_places c.args.following.now) next
+          visited-enough (g.V.PlaceVisitor.Keeps c.args.self.now.visitor.now join.sets front) join.in_order join.choices join.query join.sets c.args.slots.now c.args.stage.now.table (candidate_places c.args.following.now) next
           c.loop-index.index before c.loop-index.state so_far (omega (arith, c.loop-index-test.true, c.len-index-end.ensures)) c.loop-index.slots c.place-place.result c.loop-index.invariant.same c.place-place.ensures
           c.in_ok-onward.onward c.walk_with.new.state (c.in_ok-onward.ensures.kept front (before ++ so_far.all) so_far.kept) c.in-Enough.is;
     }
@@ -129,12 +129,12 @@ walk_each-returns-in-Enough g t c =
 pub walk_each-returns : goal.walk_each-returns
 walk_each-returns g t c =
     let join = join_of g.C.ChoiceView.choices c.args.self.now in
-    let next = next-on join c.args.stage.now c.args.rest.now c.args.slots.now c.args.rows.now c.requires.can (following_places c.args.following.now) c.requires.still c.requires.follow.reaches c.requires.follow.order in
+    let next = next-on join c.args.stage.now c.args.rest.now c.args.slots.now c.args.rows.now c.requires.can (candidate_places c.args.following.now) c.requires.still c.requires.follow.reaches c.requires.follow.order in
     record {
       slots = c.loop-index.invariant.same ∙ sym (still-open c.args.slots.now c.args.stage.now.table c.requires.still);
       stand = c.loop-index.invariant.stand;
       kept = λ front before kept.
-          visited-all (g.V.PlaceVisitor.Keeps c.args.self.now.visitor.now join.sets front) join.in_order join.choices join.query join.sets c.args.slots.now c.args.stage.now.table (following_places c.args.following.now) next
+          visited-all (g.V.PlaceVisitor.Keeps c.args.self.now.visitor.now join.sets front) join.in_order join.choices join.query join.sets c.args.slots.now c.args.stage.now.table (candidate_places c.args.following.now) next
           c.loop-index.index before c.loop-index.state (c.loop-index.invariant.so_far front before kept) (omega (arith, c.loop-index-test.false, c.len-index-end.ensures));
     }
 

@@ -5,7 +5,7 @@ use Rattle.std.specs.Prelude.{slice_set}
 use Rattle.hippo_model.specs.Terms.{Combination, Place}
 use Rattle.hippo_eval.specs.declared.walks.Onward.TheVariants.{More}
 use Rattle.hippo_join_stages.specs.Visiting.{Visited}
-use Rattle.hippo_join_stages.specs.Walking.{following_places}
+use Rattle.hippo_join_stages.specs.Walking.{candidate_places}
 use Rattle.hippo_join.specs.Walked.{StandAt}
 use Rattle.hippo_join.proofs.VisitingLemmas.{Tried}
 use Rattle.hippo_join.proofs.walking.Walk.+walk.Given as goal
@@ -27,5 +27,5 @@ invariant-walk_each-loop-index g l = record {
   same : slice_set l.slots l.stage.table None ≡ l.initial.slots;
   stand : StandAt l.self.side.now.sets.now l.slots l.rows;
   so_far : (front : List Combination) (before : List (List Place)) → g.V.PlaceVisitor.Keeps l.self.visitor.now l.self.side.now.sets.now front before l.initial.state
-      → Visited (Tried (g.C.ChoiceView.choices l.self.side.now.choices.now) l.self.side.now.query.now l.self.side.now.sets.now l.initial.slots l.stage.table (following_places l.following) l.index) l.self.in_order (g.V.PlaceVisitor.Keeps l.self.visitor.now l.self.side.now.sets.now front) More before l.state;
+      → Visited (Tried (g.C.ChoiceView.choices l.self.side.now.choices.now) l.self.side.now.query.now l.self.side.now.sets.now l.initial.slots l.stage.table (candidate_places l.following) l.index) l.self.in_order (g.V.PlaceVisitor.Keeps l.self.visitor.now l.self.side.now.sets.now front) More before l.state;
 }

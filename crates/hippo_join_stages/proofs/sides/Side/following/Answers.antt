@@ -4,8 +4,8 @@ use Rattle.std.specs.Prelude.{slice_set}
 use Rattle.hippo_join_lookups.specs.Known.{is_open}
 use Rattle.hippo_join_lookups.specs.Places.{rows_at}
 use Rattle.hippo_join_lookups.proofs.PlaceSteps.{ok-then}
-use Rattle.hippo_join_stages.specs.Stages.{AllCount, ReachesFrom, suffices}
-use Rattle.hippo_join_stages.specs.Walking.{following_places}
+use Rattle.hippo_join_stages.specs.Stages.{AllQualify, ReachesFrom, suffices}
+use Rattle.hippo_join_stages.specs.Walking.{candidate_places}
 use Rattle.hippo_join_stages.proofs.SufficeLemmas.{enough-of, searched-tied}
 use Rattle.hippo_join_stages.proofs.sides.Side.following.Goals as goal
 
@@ -16,8 +16,8 @@ returns-after-len-eq1-clause-count g c =
     let sets = c.args.self.now.sets.now in
     let slots = c.args.slots.now in
     let stage = c.args.stage.now in
-    ok-then (λ following. ReachesFrom choices query sets slots stage.table (following_places following))
-    (λ following. is_open slots stage.table ≡ true → suffices stage slots ≡ true → AllCount choices query sets slots stage.table (following_places following))
+    ok-then (λ following. ReachesFrom choices query sets slots stage.table (candidate_places following))
+    (λ following. is_open slots stage.table ≡ true → suffices stage slots ≡ true → AllQualify choices query sets slots stage.table (candidate_places following))
     c.candidates.result c.candidates.ensures
     (λ following reaches still yes place has set at within.
     let rows = rows_at sets (slice_set slots stage.table (Some place)) in

@@ -4,7 +4,7 @@ use Rattle.std.proofs.lemmas.List.{set-set}
 use Rattle.hippo_model.specs.Terms.{Combination, Place}
 use Rattle.std.specs.Prelude.{Option, slice_set}
 use Rattle.hippo_join_lookups.specs.Places.{Fits, blank, rows_at, stands}
-use Rattle.hippo_join_stages.specs.Walking.{following_places}
+use Rattle.hippo_join_stages.specs.Walking.{candidate_places}
 use Rattle.hippo_join_lookups.proofs.PruneLemmas.{long-enough}
 use Rattle.hippo_join_stages.proofs.ReachLemmas.{fits-alone, tested-more, all-tested, length-unchosen}
 use Rattle.hippo_join_lookups.proofs.SlotLemmas.{rows-but}
@@ -39,7 +39,7 @@ loop-index-preserved g c = record {
   fit = λ places long place at. rw (set-set c.loop-index.slots.items c.args.table (Some c.place-place.result) (Some place)) (c.loop-index.invariant.fit places long place at);
   so_far =
       tested-more (λ places. stands (g.C.ChoiceView.choices c.args.self.now.choices.now) c.args.self.now.query.now c.args.self.now.sets.now places ≡ true) c.args.table
-      c.deref-in-loop-index-2.result.now c.may_count_by-may_count.result c.loop-index.places.items c.push_if.new.places.items (following_places c.args.candidates.now) c.place-place.result c.loop-index.index c.place-place.ensures c.in_ok-push_if.ensures
+      c.deref-in-loop-index-2.result.now c.may_count_by-may_count.result c.loop-index.places.items c.push_if.new.places.items (candidate_places c.args.candidates.now) c.place-place.result c.loop-index.index c.place-place.ensures c.in_ok-push_if.ensures
       (λ places counts at. subst (λ (slots : List (Option Place)). Fits slots places) (sym c.deref-in-loop-index-2.ensures.value) (c.loop-index.invariant.fit places (long-enough (g.C.ChoiceView.choices c.args.self.now.choices.now) c.args.self.now.query.now c.args.self.now.sets.now places counts) c.place-place.result at))
       c.may_count_by-may_count.ensures c.loop-index.invariant.so_far;
 }
@@ -47,4 +47,4 @@ loop-index-preserved g c = record {
 pub returns : goal.returns
 returns g c =
     all-tested (λ places. stands (g.C.ChoiceView.choices c.args.self.now.choices.now) c.args.self.now.query.now c.args.self.now.sets.now places ≡ true) c.args.table
-    (following_places c.args.candidates.now) c.loop-index.places.items c.loop-index.index (omega (arith, c.loop-index-test.false, c.len-index-end.ensures)) c.requires.candidates c.loop-index.invariant.so_far
+    (candidate_places c.args.candidates.now) c.loop-index.places.items c.loop-index.index (omega (arith, c.loop-index-test.false, c.len-index-end.ensures)) c.requires.candidates c.loop-index.invariant.so_far

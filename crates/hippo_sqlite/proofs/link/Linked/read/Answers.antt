@@ -1,7 +1,7 @@
 -- The query changes nothing that is known, and its entries are those of the history.
 use Rattle.std.proofs.Common.{◌∙◌, sym, ap, subst₂, arith, rules}
-use Rattle.hippo_keeper.specs.Selecting.{handed_over, is_selected}
-use Rattle.hippo_sqlite.specs.Contents.{LooksAtStore, connection_contents}
+use Rattle.hippo_keeper.specs.Selecting.{selected_entries, is_selected}
+use Rattle.hippo_sqlite.specs.Contents.{LeavesContents, connection_contents}
 use Rattle.hippo_sqlite.specs.Links.{linked_contents}
 use Rattle.hippo_sqlite_table.specs.Queries.{read_sql, params_of}
 use Rattle.hippo_sqlite.proofs.ContentsLemmas.{look_linked, look_away, told_history, ok_weaker}
@@ -21,7 +21,7 @@ returns-then-read_query-ge-NUMBERS g c =
       told = λ tells.
           let h = told_history g.S.Store g.met.S.Store.settled g.met.S.Store.stays g.met.S.Store.survives old.connection old.connection old.opened.value old.told.value old.told.value c.requires.rests tells in
           c.new.ensures ∙ none_handed (is_selected selection) read_query.after read_query.max h.0.rows (omega (arith, c.if-read_query-ge-NUMBERS.true)) h.0.order
-          ∙ ap (handed_over (is_selected selection) read_query.after read_query.max) (sym h.1);
+          ∙ ap (selected_entries (is_selected selection) read_query.after read_query.max) (sym h.1);
     }
 
 pub returns : goal.returns
@@ -36,10 +36,10 @@ returns g c =
     record {
       few = found.few;
       order = found.order;
-      looks = subst₂ (λ now opened. LooksAtStore c.find-answer.result (linked_contents g.S.Store old) (connection_contents g.S.Store now new.told.value opened.value))
+      looks = subst₂ (λ now opened. LeavesContents c.find-answer.result (linked_contents g.S.Store old) (connection_contents g.S.Store now new.told.value opened.value))
           (sym c.note.ensures.connection) (sym c.note.ensures.opened) done;
       told = ok_weaker c.find-answer.result _ _ (λ list told tells.
           let still = subst₂ (λ now opened. (connection_contents g.S.Store now new.told.value opened.value).tells) c.note.ensures.connection c.note.ensures.opened tells in
           let h = told_history g.S.Store g.met.S.Store.settled g.met.S.Store.stays g.met.S.Store.survives old.connection old.connection old.opened.value old.told.value old.told.value c.requires.rests (done.on.told still) in
-          told still.0 h.0.rows h.0.schema h.0.are h.0.order ∙ ap (handed_over (is_selected selection) read_query.after read_query.max) (sym h.1)) found.told;
+          told still.0 h.0.rows h.0.schema h.0.are h.0.order ∙ ap (selected_entries (is_selected selection) read_query.after read_query.max) (sym h.1)) found.told;
     }

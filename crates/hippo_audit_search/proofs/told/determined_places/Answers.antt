@@ -1,7 +1,7 @@
 -- The settled rows are in every combination that counts.
 use Rattle.std.proofs.Common.{ℕ, Vec, Global}
 use Rattle.hippo_audit_search.proofs.ToldLemmas.{chosen-told}
-use Rattle.hippo_audit_search.proofs.told.told_places.Goals as goal
+use Rattle.hippo_audit_search.proofs.told.determined_places.Goals as goal
 
 pub returns : goal.returns
 returns g c =

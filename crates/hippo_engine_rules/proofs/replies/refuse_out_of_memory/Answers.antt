@@ -1,7 +1,7 @@
 use Rattle.std.proofs.Common.{sym, ◌∙◌}
 use Rattle.hippo_engine_checks.proofs.LengthLemmas.{memory_fits, never_short}
 use Rattle.hippo_engine_rules.proofs.SpeakerLemmas.{IsSpeaker-byte}
-use Rattle.hippo_engine_rules.proofs.replies.refuse_for_memory.Goals as goal
+use Rattle.hippo_engine_rules.proofs.replies.refuse_out_of_memory.Goals as goal
 
 pub unreachable-requires : goal.unreachable-requires
 unreachable-requires c =

@@ -12,7 +12,7 @@ use Rattle.hippo_audit_search.specs.Needs.{needs_by}
 use Rattle.hippo_audit_common.specs.Commons.{common_tables, place_in}
 use Rattle.hippo_audit_needs.specs.GroupMarks.{placed_rows, AreMarkedGroups}
 use Rattle.hippo_audit_needs.proofs.ChangingTheorem.{changing_are}
-use Rattle.hippo_audit_needs.proofs.changing.first_changing.Goals as goal
+use Rattle.hippo_audit_needs.proofs.changing.first_needed_by_groups.Goals as goal
 
 pub returns-then-not-branch : goal.returns-then-not-branch
 returns-then-not-branch g c =
