@@ -1,5 +1,5 @@
 -- A call for the next line, by any view of the input.
-use Rattle.std.proofs.Common.{◌≡◌, ◌⊎◌, inl, inr, ℕ, List, [], ◌∷◌, ◌++◌, Some, None, drop, refl, sym, ap, ◌∙◌, subst, append-nil, IsTrue, IsFalse, Result, Ok, Err}
+use Rattle.std.proofs.Common.{◌≡◌, inl, inr, ℕ, List, [], ◌∷◌, ◌++◌, Some, None, drop, sym, ap, ◌∙◌, subst, append-nil, IsTrue, Result, Ok}
 use Rattle.std.specs.Prelude.{Option}
 use Rattle.hippo_io.specs.Lines.{LineText, lines}
 use Rattle.hippo_io.specs.Position.{Position}

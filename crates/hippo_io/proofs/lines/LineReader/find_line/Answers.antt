@@ -1,10 +1,10 @@
 -- One read after the other, until a line's end waits.
-use Rattle.std.proofs.Common.{rules, length, take, refl, ap, sym, subst, ◌∙◌, arith}
+use Rattle.std.proofs.Common.{rules, length, take, ap, sym, subst, ◌∙◌, arith}
 use Rattle.hippo_io.specs.Inputs.{exposed}
 use Rattle.hippo_io.specs.Lines.{feeds}
 use Rattle.hippo_io.specs.Moves.{BeginsWithLine}
 use Rattle.hippo_io.proofs.HandedLemmas.{HasHandedOut-refilled, HasGivenUp-failed, nothing_left, on_err}
-use Rattle.hippo_io.proofs.InputLemmas.{ReadsOn-none, ReadsOn-then, Fits-before, Fits-after}
+use Rattle.hippo_io.proofs.InputLemmas.{ReadsOn-then, Fits-before, Fits-after}
 use Rattle.hippo_io.proofs.lines.LineReader.find_line.Goals as goal
 
 pub returns-in_err-refill-clause-gives_up : goal.returns-in_err-refill-clause-gives_up
