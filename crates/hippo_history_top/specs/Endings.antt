@@ -5,7 +5,7 @@ use Rattle.hippo_keeper.specs.declared.faults.KeeperFault.TheVariants as faults
 use Rattle.hippo_program_args.specs.declared.endings.Ending.{Ending}
 use Rattle.hippo_program_args.specs.declared.endings.Ending.TheVariants.{Served, Refused, KeeperFault, ReadFault, WriteFault, Damaged, NoMemory, TooMuch}
 
--- all exit statuses; nothing is read from a source
+-- all exit statuses of the program that shows a history; it reads no source
 abbrev pub showing_statuses : List ℕ
 showing_statuses = 0 ∷ 2 ∷ 3 ∷ 5 ∷ 6 ∷ 7 ∷ []
 

@@ -34,8 +34,8 @@ abbrev pub is_question_of : KnownNames → Name → Txt → Bool
 is_question_of known table text =
     option_map_or (λ query. list_any (bytes_eq table) query.tables) (meaning_in known text) false
 
--- whether an act is about a table: it creates the table, changes a row of it, sets or revokes a
--- rule on it, or asks a question that reads it
+-- whether an act is about a table. It creates the table, changes a row of it, sets or revokes a
+-- rule on it, or asks a question that reads it.
 abbrev pub speaks_of : KnownNames → Name → Act → Bool
 speaks_of known table (Create schema) = bytes_eq table schema.name
 speaks_of known table (Insert name row) = bytes_eq table name
