@@ -80,9 +80,9 @@ def require(file, crate="hippo", words="-- run < stdin"):
         sys.exit(f"{file} is not built: cd crates/{crate} && rt run {words}")
 
 
-def run(words, text=b"", **more):
-    """Runs a program on a text: its exit status, its output and its error output."""
-    ran = subprocess.run(words, input=text, capture_output=True, **more)
+def run(words, given=b"", **more):
+    """Runs a program on an input: its exit status, its output and its error output."""
+    ran = subprocess.run(words, input=given, capture_output=True, **more)
     return ran.returncode, ran.stdout, ran.stderr
 
 
