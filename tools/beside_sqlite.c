@@ -5,8 +5,8 @@
  *   s  sets up; there is no reply
  *   c  a change: prepared and stepped, after a row of the log with the word `all`. The reply is
  *      "0 ok"
- *   q  a question: a row of the log, then it is prepared and stepped. The reply is "1 row CELLS" for
- *      each row, and "1 end COUNT"
+ *   q  a question: a row of the log, then it is prepared and stepped. The reply is "1 row CELLS"
+ *      for each row, and "1 end COUNT"
  * With the word `none` there is no log. The log is the table `history`, which the input sets up
  * first; its rows are bound to a statement that is prepared once.
  *
