@@ -140,6 +140,10 @@ def leap(year):
     return year % 4 == 0 and (year % 100 != 0 or year % 400 == 0)
 
 
+def days_in(year, month):
+    return DAYS_IN[month - 1] + (1 if month == 2 and leap(year) else 0)
+
+
 def days_before(year):
     """Days from 0001-01-01 to the first day of `year`."""
     past = year - 1
@@ -154,8 +158,7 @@ def read_day(text):
     year, month, day = int(m.group(1)), int(m.group(2)), int(m.group(3))
     if year < 1 or not 1 <= month <= 12:
         return None
-    size = DAYS_IN[month - 1] + (1 if month == 2 and leap(year) else 0)
-    if not 1 <= day <= size:
+    if not 1 <= day <= days_in(year, month):
         return None
     number = days_before(year) + sum(DAYS_IN[:month - 1]) + day - 1
     if month > 2 and leap(year):
