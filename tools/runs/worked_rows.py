@@ -1,4 +1,3 @@
-#!/usr/bin/env -S python3 -B
 """Writes the input of each worked row of hippo_try_runs that is a run without faults, a file a row.
 
 usage: worked_rows.py FOLDER
