@@ -4,8 +4,9 @@ import re
 import sys
 
 sys.path.insert(0, str(pathlib.Path(__file__).resolve().parent.parent / "readers"))
-from second_reader import (BadSyntax, Fault, KEYWORDS, UNSUPPORTED, Reader, check_words, cut,
-                           days_before, days_in, read_day)
+from second_reader import BadSyntax, Reader
+from second_tokens import (Fault, KEYWORDS, UNSUPPORTED, check_words, cut, days_before, days_in,
+                           read_day)
 
 NUMBER = re.compile(r"(0|[1-9][0-9]*)\Z")
 MOMENT = re.compile(rb"([0-9]{4}-[0-9]{2}-[0-9]{2})T([0-9]{2}):([0-9]{2}):([0-9]{2})Z\Z")
