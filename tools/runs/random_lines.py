@@ -163,16 +163,10 @@ class Lines:
 
     def operand(self, tables, kind):
         if self.chance(0.6):
-<<<<<<< HEAD
-            candidate_columns = [(t, c) for t in tables for c, k in TABLES.get(t, []) if k == kind or self.chance(0.02)]
-            if candidate_columns:
-                table, column = self.pick(candidate_columns)
-=======
             columns = [(t, c, k) for t in tables for c, k in TABLES.get(t, [])]
             homes = [(t, c) for t, c, k in columns if k == kind or self.chance(0.02)]
             if homes:
                 table, column = self.pick(homes)
->>>>>>> 0e48d6cd898a778074a5235a01288d72a24e870b
                 return "%s.%s" % (table, column) if self.chance(0.6) or len(tables) > 1 else column
         return self.value(kind)
 
