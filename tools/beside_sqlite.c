@@ -1,11 +1,14 @@
-/* The peer of tools/beside-sqlite: carries out lines over a SQLite database in memory, and writes a reply to each at once, as `hippo run` does.
+/* The peer of tools/beside-sqlite: carries out lines over a SQLite database in memory, and writes a
+ * reply to each at once, as `hippo run` does.
  *
  * A line of the input is a letter, a blank and SQL:
  *   s  sets up; there is no reply
- *   c  a change: prepared and stepped; the reply is "0 ok"; with the word `all`, a row of the log as well
- *   q  a question: a row of the log, then prepared and stepped; the reply is "1 row CELLS" for each row, then "1 end COUNT"
- * With the word `none` there is no log. The row of the log is bound to a statement that is prepared once; it goes into the table `history`,
- * which the input sets up before.
+ *   c  a change: prepared and stepped, after a row of the log with the word `all`. The reply is
+ *      "0 ok"
+ *   q  a question: a row of the log, then it is prepared and stepped. The reply is "1 row CELLS"
+ *      for each row, and "1 end COUNT"
+ * With the word `none` there is no log. The log is the table `history`, which the input sets up
+ * first; its rows are bound to a statement that is prepared once.
  *
  * usage: beside_sqlite none|questions|all < LINES
  */
@@ -44,7 +47,8 @@ static void set_up(const char *text)
 static void log_text(const char *text, int length)
 {
     if (log_row == NULL) {
-        const char *insert = "INSERT INTO history (moment, user, purpose, recipient, body) VALUES (1704067200, 'ann', 'treatment', 'nurse', ?1)";
+        const char *insert = "INSERT INTO history (moment, user, purpose, recipient, body) "
+                             "VALUES (1704067200, 'ann', 'treatment', 'nurse', ?1)";
         if (sqlite3_prepare_v2(database, insert, -1, &log_row, NULL) != SQLITE_OK)
             stop("prepare", insert);
     }
@@ -168,13 +172,14 @@ int main(int count, char **words)
         return 2;
     }
     setvbuf(stdout, output, _IOFBF, sizeof output);
+    int logs_questions = strcmp(words[1], "none") != 0, logs_changes = strcmp(words[1], "all") == 0;
     open_database();
     while ((length = getline(&line, &room, stdin)) > 0) {
         if (line[length - 1] == '\n')
             line[--length] = 0;
         if (length < 2)
             stop("no line", line);
-        carry_out(line[0], line + 2, length - 2, strcmp(words[1], "none") != 0, strcmp(words[1], "all") == 0);
+        carry_out(line[0], line + 2, length - 2, logs_questions, logs_changes);
     }
     return 0;
 }

@@ -1,312 +1,16 @@
-#!/usr/bin/env python3
-"""A second reader of the statement language, written from the grammar alone: it shares no code with the proved one.
+#!/usr/bin/env -S python3 -B
+"""A second reader of the statement language, written from the grammar only.
 
-Each line of standard input is the word of a rule (tokens, statement, select, condition or audit), a space and a text. What
-the text is by that rule, or why it is nothing, is printed as one line, in the form that hippo_try_reading has.
+It shares no code with the proved reader. Each line of standard input is the word of a rule (tokens,
+statement, select, condition or audit), a space and a text. What the text is by that rule, or why it
+is nothing, is printed as one line, in the form that hippo_try_reading has.
 """
-import re
 import sys
-import unicodedata
+
+from second_tokens import (COMPARE, Fault, Rec, Tup, Unit, check_words, cut, day_number, debug,
+                           token_debug)
 
 sys.setrecursionlimit(20000)
-
-# ---------------------------------------------------------------- word lists
-
-KEYWORDS = frozenset("""
-    and allow audit authorize begin between choice create date deauthorize
-    delete distinct during explain for from group in inner insert integer into
-    is item join key max min no not null on open opt otherthan out primary
-    purpose recipient revoke select set shown subject table text to update
-    values where with yes or
-""".split())
-
-UNSUPPORTED = frozenset("""
-    all alter any as avg case cast count cross drop except exists full having
-    intersect left like limit natural offset order outer right sum union using
-    window
-""".split())
-
-SYMBOLS = {
-    b"(": "LeftParen", b")": "RightParen", b",": "Comma", b".": "Dot",
-    b"*": "Star", b"=": "Equal", b"<>": "NotEqual", b"!=": "NotEqual",
-    b"<": "Less", b"<=": "LessEqual", b">": "Greater", b">=": "GreaterEqual",
-    b";": "Semicolon",
-}
-
-COMPARE = {"Equal": "Eq", "NotEqual": "Ne", "Less": "Lt", "LessEqual": "Le",
-           "Greater": "Gt", "GreaterEqual": "Ge"}
-
-# ---------------------------------------------------------------- Rust's Debug
-
-
-class Unit:
-    """A variant without fields."""
-    __slots__ = ("name",)
-
-    def __init__(self, name):
-        self.name = name
-
-
-class Tup:
-    """A variant (or Some) with fields by place."""
-    __slots__ = ("name", "args")
-
-    def __init__(self, name, *args):
-        self.name = name
-        self.args = args
-
-
-class Rec:
-    """A struct or a variant with named fields."""
-    __slots__ = ("name", "fields")
-
-    def __init__(self, name, *fields):
-        self.name = name
-        self.fields = fields
-
-
-PLAIN = re.compile(r'[ !#-\[\]-~]*\Z')
-SHORT = {'"': '\\"', "\\": "\\\\", "\t": "\\t", "\r": "\\r", "\n": "\\n",
-         "\0": "\\0"}
-
-
-def debug_text(s):
-    if PLAIN.match(s):
-        return '"' + s + '"'
-    out = ['"']
-    for c in s:
-        if c in SHORT:
-            out.append(SHORT[c])
-        elif " " <= c <= "~":
-            out.append(c)
-        elif unicodedata.category(c) in ("Cc", "Cf", "Cs", "Co", "Cn", "Zl",
-                                         "Zp", "Zs", "Mn", "Me"):
-            # not printable, or extends the character before it
-            out.append("\\u{%x}" % ord(c))
-        else:
-            out.append(c)
-    out.append('"')
-    return "".join(out)
-
-
-def render(x, out):
-    if isinstance(x, str):
-        out.append(debug_text(x))
-    elif isinstance(x, bool):
-        out.append("true" if x else "false")
-    elif isinstance(x, int):
-        out.append(str(x))
-    elif isinstance(x, list):
-        out.append("[")
-        for place, member in enumerate(x):
-            if place:
-                out.append(", ")
-            render(member, out)
-        out.append("]")
-    elif isinstance(x, Unit):
-        out.append(x.name)
-    elif isinstance(x, Tup):
-        out.append(x.name + "(")
-        for place, member in enumerate(x.args):
-            if place:
-                out.append(", ")
-            render(member, out)
-        out.append(")")
-    elif isinstance(x, Rec):
-        out.append(x.name + " { ")
-        for place, (field, member) in enumerate(x.fields):
-            if place:
-                out.append(", ")
-            out.append(field + ": ")
-            render(member, out)
-        out.append(" }")
-    else:
-        raise TypeError(x)
-
-
-def debug(x):
-    out = []
-    render(x, out)
-    return "".join(out)
-
-
-# ---------------------------------------------------------------- days
-
-DAYS_IN = (31, 28, 31, 30, 31, 30, 31, 31, 30, 31, 30, 31)
-DAY_FORM = re.compile(rb"([0-9]{4})-([0-9]{2})-([0-9]{2})\Z")
-
-
-def leap(year):
-    return year % 4 == 0 and (year % 100 != 0 or year % 400 == 0)
-
-
-def days_before(year):
-    """Days from 0001-01-01 to the first day of `year`."""
-    past = year - 1
-    return 365 * past + past // 4 - past // 100 + past // 400
-
-
-def read_day(text):
-    """The day number of exactly YYYY-MM-DD, or None."""
-    m = DAY_FORM.match(text)
-    if not m:
-        return None
-    year, month, day = int(m.group(1)), int(m.group(2)), int(m.group(3))
-    if year < 1 or not 1 <= month <= 12:
-        return None
-    size = DAYS_IN[month - 1] + (1 if month == 2 and leap(year) else 0)
-    if not 1 <= day <= size:
-        return None
-    number = days_before(year) + sum(DAYS_IN[:month - 1]) + day - 1
-    if month > 2 and leap(year):
-        number += 1
-    return number - days_before(1970)
-
-
-# ---------------------------------------------------------------- tokens
-
-# A token is (kind, value, start, end) with the kinds word, keyword,
-# unsupported, number, quoted, day, symbol.
-
-
-class Fault(Exception):
-    def __init__(self, name, place):
-        self.name = name
-        self.place = place
-
-
-BLANKS = re.compile(rb"[ \t]*")
-WORD = re.compile(rb"[A-Za-z][A-Za-z0-9_]*")
-NUMBER = re.compile(rb"-?[0-9]+")
-LETTER = re.compile(rb"[A-Za-z_]")
-SYMBOL = re.compile(rb"<>|!=|<=|>=|[(),.*=<>;]")
-
-
-def quoted_end(text, at):
-    """The place behind the closing quote of the text that opens at `at`, or
-    None where it isn't closed."""
-    place = at + 1
-    while True:
-        place = text.find(b"'", place)
-        if place < 0:
-            return None
-        if text[place + 1:place + 2] == b"'":
-            place += 2
-        else:
-            return place + 1
-
-
-def inner(text, at, end):
-    return text[at + 1:end - 1].replace(b"''", b"'")
-
-
-def cut(text):
-    """The tokens of a text (bytes); raises Fault at the leftmost one."""
-    found = []
-    at = BLANKS.match(text).end()
-    size = len(text)
-    while at < size:
-        m = WORD.match(text, at)
-        if m:
-            end = m.end()
-            if end - at > 63:
-                raise Fault("BadToken", at)
-            word = m.group().decode("ascii").lower()
-            if word == "date":
-                quote = BLANKS.match(text, end).end()
-                if text[quote:quote + 1] == b"'":
-                    close = quoted_end(text, quote)
-                    if close is not None:
-                        day = read_day(inner(text, quote, close))
-                        if day is None:
-                            raise Fault("BadDate", at)
-                        found.append(("day", day, at, close))
-                        at = BLANKS.match(text, close).end()
-                        continue
-            if word in KEYWORDS:
-                found.append(("keyword", word, at, end))
-            elif word in UNSUPPORTED:
-                found.append(("unsupported", word, at, end))
-            else:
-                found.append(("word", word, at, end))
-            at = BLANKS.match(text, end).end()
-            continue
-        m = NUMBER.match(text, at)
-        if m:
-            end = m.end()
-            digits = m.group()
-            minus = digits[:1] == b"-"
-            digits = digits.lstrip(b"-").lstrip(b"0")
-            value = 10 ** 19 if len(digits) > 19 else int(digits or b"0")
-            if minus:
-                value = -value
-            if not -2 ** 63 <= value <= 2 ** 63 - 1:
-                raise Fault("NumberTooLarge", at)
-            if LETTER.match(text, end):
-                raise Fault("BadToken", end)
-            found.append(("number", value, at, end))
-            at = BLANKS.match(text, end).end()
-            continue
-        if text[at:at + 1] == b"'":
-            end = quoted_end(text, at)
-            if end is None:
-                raise Fault("BadToken", at)
-            found.append(("quoted", inner(text, at, end).decode("utf-8"), at, end))
-            at = BLANKS.match(text, end).end()
-            continue
-        m = SYMBOL.match(text, at)
-        if m:
-            end = m.end()
-            found.append(("symbol", SYMBOLS[m.group()], at, end))
-            at = BLANKS.match(text, end).end()
-            continue
-        raise Fault("BadToken", at)
-    return found
-
-
-def day_number(day):
-    return Rec("DayNumber", ("day", day))
-
-
-def token_debug(token):
-    kind, value, start, end = token
-    if kind == "word":
-        shape = Tup("Word", value)
-    elif kind == "keyword":
-        shape = Tup("Keyword", Unit("K" + value[0].upper() + value[1:]))
-    elif kind == "unsupported":
-        shape = Tup("Unsupported", value)
-    elif kind == "number":
-        shape = Tup("Number", value)
-    elif kind == "quoted":
-        shape = Tup("Quoted", value)
-    elif kind == "day":
-        shape = Tup("Day", day_number(value))
-    else:
-        shape = Tup("Symbol", Unit(value))
-    return Rec("Token", ("kind", shape), ("start", start), ("end", end))
-
-
-def check_words(tokens):
-    """The fault of the words, as it is printed, or None."""
-    open_ = nots = 0
-    for kind, value, _, _ in tokens:
-        if kind == "symbol":
-            if value == "LeftParen":
-                open_ += 1
-                if open_ > 64:
-                    return "TooDeep"
-            elif value == "RightParen":
-                open_ -= 1
-        elif kind == "keyword" and value == "not":
-            nots += 1
-            if nots > 64:
-                return "TooDeep"
-    for place, token in enumerate(tokens):
-        if token[0] == "unsupported":
-            return "Unsupported(%d)" % place
-    return None
-
 
 # ---------------------------------------------------------------- grammar
 
@@ -357,7 +61,7 @@ class Reader:
         return self.may("symbol", symbol)
 
     def word(self, *words):
-        """These keywords, one after the other."""
+        """The given keywords, in this order."""
         for word in words:
             if not self.may("keyword", word):
                 raise BadSyntax
@@ -434,55 +138,56 @@ class Reader:
 
     # conditions
 
-    def cond(self):
-        parts = [self.conj()]
+    def condition(self):
+        parts = [self.conjunction()]
         while self.may_word("or"):
-            parts.append(self.conj())
+            parts.append(self.conjunction())
         return parts[0] if len(parts) == 1 else Tup("Any", parts)
 
-    def conj(self):
-        parts = [self.neg()]
+    def conjunction(self):
+        parts = [self.negation()]
         while self.may_word("and"):
-            parts.append(self.neg())
+            parts.append(self.negation())
         return parts[0] if len(parts) == 1 else Tup("All", parts)
 
-    def neg(self):
+    def negation(self):
         nots = 0
         while self.may_word("not"):
             nots += 1
-        shape = self.prim()
+        shape = self.primary()
         for _ in range(nots):
             shape = Tup("Not", shape)
         return shape
 
-    def prim(self):
+    def primary(self):
         if self.may_symbol("LeftParen"):
-            shape = self.cond()
+            shape = self.condition()
             self.symbol("RightParen")
             return shape
-        left = self.operand()
+        return self.test(self.operand())
+
+    def test(self, left):
+        """A test of an operand that is read already."""
         kind, value, _, _ = self.peek()
         if kind == "symbol" and value in COMPARE:
             self.at += 1
             right = self.operand()
             return Rec("Compare", ("op", Unit(COMPARE[value])), ("left", left),
                        ("right", right))
-        if self.may_word("is"):
-            turned = self.may_word("not")
+        is_missing = self.may_word("is")
+        turned = self.may_word("not")
+        if is_missing:
             self.word("null")
             shape = Rec("Missing", ("value", left))
+        elif self.may_word("between"):
+            low = self.operand()
+            self.word("and")
+            high = self.operand()
+            shape = Rec("Between", ("value", left), ("low", low), ("high", high))
         else:
-            turned = self.may_word("not")
-            if self.may_word("between"):
-                low = self.operand()
-                self.word("and")
-                high = self.operand()
-                shape = Rec("Between", ("value", left), ("low", low), ("high", high))
-            elif self.may_word("in"):
-                among = self.in_parens(self.operand)
-                shape = Rec("Among", ("value", left), ("list", among))
-            else:
-                raise BadSyntax
+            self.word("in")
+            among = self.in_parens(self.operand)
+            shape = Rec("Among", ("value", left), ("list", among))
         return Tup("Not", shape) if turned else shape
 
     # selects
@@ -521,15 +226,15 @@ class Reader:
                 self.word("join")
                 tables.append(self.name())
                 self.word("on")
-                conds.append(self.cond())
+                conds.append(self.condition())
             else:
                 break
         if self.may_word("where"):
-            conds.append(self.cond())
+            conds.append(self.condition())
         return tables, whole(conds)
 
     def grouped(self):
-        """The second form of a select, behind SELECT."""
+        """The second form of a select, after SELECT."""
         outs = self.listed(self.group_item)
         self.word("from")
         tables, cond = self.sources()
@@ -542,7 +247,7 @@ class Reader:
                    ("cond", cond), ("form", form))
 
     def ungrouped(self):
-        """The first form of a select, behind SELECT."""
+        """The first form of a select, after SELECT."""
         form = Unit("Distinct" if self.may_word("distinct") else "Plain")
         items = self.items()
         self.word("from")
@@ -552,11 +257,11 @@ class Reader:
 
     def select(self):
         self.word("select")
-        behind = self.at
+        after = self.at
         try:
             return self.grouped()
         except BadSyntax:
-            self.at = behind
+            self.at = after
             return self.ungrouped()
 
     # audits
@@ -580,7 +285,7 @@ class Reader:
         columns = self.listed(self.column)
         self.word("from")
         tables = self.listed(self.name)
-        conds = [self.cond()] if self.may_word("where") else []
+        conds = [self.condition()] if self.may_word("where") else []
         return Rec("RawAudit", ("from", begin), ("to", end), ("exempt", exempt),
                    ("shown", shown), ("columns", columns), ("tables", tables),
                    ("cond", whole(conds)))
@@ -598,16 +303,12 @@ class Reader:
             parts.append(self.set_part())
         return [c for c, _ in parts], [v for _, v in parts]
 
-    def coldef(self):
+    def column_definition(self):
         name = self.name()
         if self.may_word("integer"):
             kind = "Integer"
-        elif self.may_word("text"):
-            kind = "Text"
-        elif self.may_word("date"):
-            kind = "Date"
         else:
-            raise BadSyntax
+            kind = "Text" if self.either("text", "date") else "Date"
         not_null = self.may_word("not")
         if not_null:
             self.word("null")
@@ -622,20 +323,18 @@ class Reader:
         if self.may_word("item"):
             item = self.name()
             self.word("opt")
-            if self.may_word("in"):
-                kind = "OptIn"
-            elif self.may_word("out"):
-                kind = "OptOut"
-            else:
-                raise BadSyntax
+            kind = "OptIn" if self.either("in", "out") else "OptOut"
             return Rec("CreateItem", ("item", item), ("kind", Unit(kind)))
         self.word("table")
+        return self.create_table()
+
+    def create_table(self):
         table = self.name()
         self.symbol("LeftParen")
-        columns = [self.coldef()]
+        columns = [self.column_definition()]
         self.symbol("Comma")
         while not self.sees_word("primary"):
-            columns.append(self.coldef())
+            columns.append(self.column_definition())
             self.symbol("Comma")
         self.word("primary", "key")
         key = self.in_parens(self.name)
@@ -647,7 +346,7 @@ class Reader:
         return Rec("CreateTable", ("table", table), ("columns", columns),
                    ("key", key), ("subject", subject))
 
-    def authorize(self, shape):
+    def authorize(self, shape="Authorize"):
         user = self.name()
         self.word("for")
         purpose = self.name()
@@ -655,6 +354,15 @@ class Reader:
         recipient = self.name()
         return Rec(shape, ("user", user), ("purpose", purpose),
                    ("recipient", recipient))
+
+    def deauthorize(self):
+        return self.authorize("Deauthorize")
+
+    def revoke(self):
+        return Rec("Revoke", *self.rule())
+
+    def explain(self):
+        return Tup("Explain", self.number())
 
     def rule(self):
         """The fields that ALLOW and REVOKE have in common."""
@@ -676,67 +384,69 @@ class Reader:
             raise BadSyntax
         return Tup("Some", days)
 
+    def allow(self):
+        fields = self.rule()
+        item = Tup("Some", self.name()) if self.may_word("with") else Unit("None")
+        return Rec("Allow", *fields, ("item", item), ("days", self.retention()))
+
+    def either(self, word, other):
+        """Whether the first of two keywords is here, of which one must be."""
+        if self.may_word(word):
+            return True
+        self.word(other)
+        return False
+
+    def choice(self):
+        subject = self.number()
+        self.word("on")
+        item = self.name()
+        self.word("is")
+        yes = self.either("yes", "no")
+        return Rec("Choice", ("subject", subject), ("item", item), ("yes", yes))
+
+    def insert(self):
+        self.word("into")
+        table = self.name()
+        self.word("values")
+        return Rec("Insert", ("table", table), ("values", self.in_parens(self.literal)))
+
+    def update(self):
+        table = self.name()
+        self.word("set")
+        parts = self.listed(self.set_part)
+        self.word("where")
+        key_columns, key_values = self.keys()
+        return Rec("Update", ("table", table), ("columns", [column for column, _ in parts]),
+                   ("values", [value for _, value in parts]), ("key_columns", key_columns),
+                   ("key_values", key_values))
+
+    def delete(self):
+        self.word("from")
+        table = self.name()
+        self.word("where")
+        key_columns, key_values = self.keys()
+        return Rec("Delete", ("table", table), ("key_columns", key_columns),
+                   ("key_values", key_values))
+
+    def begin_audit(self):
+        self.word("audit")
+        return Tup("BeginAudit", self.audit())
+
     def console(self):
-        if self.may_word("create"):
-            return self.create()
-        if self.may_word("authorize"):
-            return self.authorize("Authorize")
-        if self.may_word("deauthorize"):
-            return self.authorize("Deauthorize")
-        if self.may_word("allow"):
-            fields = self.rule()
-            item = Tup("Some", self.name()) if self.may_word("with") else Unit("None")
-            return Rec("Allow", *fields, ("item", item), ("days", self.retention()))
-        if self.may_word("revoke"):
-            return Rec("Revoke", *self.rule())
-        if self.may_word("choice"):
-            subject = self.number()
-            self.word("on")
-            item = self.name()
-            self.word("is")
-            if self.may_word("yes"):
-                yes = True
-            elif self.may_word("no"):
-                yes = False
-            else:
-                raise BadSyntax
-            return Rec("Choice", ("subject", subject), ("item", item), ("yes", yes))
-        if self.may_word("insert"):
-            self.word("into")
-            table = self.name()
-            self.word("values")
-            return Rec("Insert", ("table", table),
-                       ("values", self.in_parens(self.literal)))
-        if self.may_word("update"):
-            table = self.name()
-            self.word("set")
-            parts = self.listed(self.set_part)
-            self.word("where")
-            key_columns, key_values = self.keys()
-            return Rec("Update", ("table", table),
-                       ("columns", [c for c, _ in parts]),
-                       ("values", [v for _, v in parts]),
-                       ("key_columns", key_columns), ("key_values", key_values))
-        if self.may_word("delete"):
-            self.word("from")
-            table = self.name()
-            self.word("where")
-            key_columns, key_values = self.keys()
-            return Rec("Delete", ("table", table), ("key_columns", key_columns),
-                       ("key_values", key_values))
-        if self.may_word("explain"):
-            return Tup("Explain", self.number())
+        """A statement of the console, by its first word."""
         if self.sees_word("during"):
             return Tup("Audit", self.audit())
-        if self.may_word("begin"):
-            self.word("audit")
-            return Tup("BeginAudit", self.audit())
         if self.may_name("watch"):
             return Tup("Watch", self.audit())
-        raise BadSyntax
+        for word in ("create", "authorize", "deauthorize", "allow", "revoke", "choice", "insert",
+                     "update", "delete", "explain"):
+            if self.may_word(word):
+                return getattr(self, word)()
+        self.word("begin")
+        return self.begin_audit()
 
     def with_text(self, shape):
-        """A select, and the places of its first byte and behind its last."""
+        """A select, with the place of its first byte and the place after its last."""
         start = self.peek()[2]
         select = self.select()
         end = self.tokens[self.at - 1][3]
@@ -769,7 +479,7 @@ def whole(conds):
 # ---------------------------------------------------------------- lines
 
 RULES = {"statement": Reader.statement, "select": Reader.select,
-         "condition": Reader.cond, "audit": Reader.audit}
+         "condition": Reader.condition, "audit": Reader.audit}
 
 
 def answer(line):

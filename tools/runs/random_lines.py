@@ -1,6 +1,8 @@
-#!/usr/bin/env python3
-"""Prints a random run for `hippo run` and for second_engine.py: a small clinic, and then lines of every kind that is carried
-out, most of them right, the others refused for one cause or another, or broken.
+#!/usr/bin/env -S python3 -B
+"""Prints a random run for `hippo run` and for second_engine.py.
+
+A small clinic is followed by lines of every kind that is carried out. Most of them are right, the
+others are refused for one cause or another, or broken.
 
 usage: random_lines.py SEED COUNT
 """
@@ -13,14 +15,49 @@ TABLES = {"patient": [("pid", "INTEGER"), ("name", "TEXT"), ("phone", "TEXT"), (
           "note": [("nid", "INTEGER"), ("pid", "INTEGER"), ("body", "TEXT")]}
 KEYS = {"patient": ["pid"], "visit": ["vno"], "ward": ["site", "room"], "note": ["nid"]}
 CREATED = {
-    "patient": "CREATE TABLE patient (pid INTEGER, name TEXT, phone TEXT, zip INTEGER, PRIMARY KEY (pid), SUBJECT pid)",
-    "visit": "CREATE TABLE visit (vno INTEGER, pid INTEGER, ward TEXT, seen DATE, PRIMARY KEY (vno), SUBJECT pid)",
-    "ward": "CREATE TABLE ward (site TEXT, room INTEGER, beds INTEGER NOT NULL, PRIMARY KEY (room, site))",
-    "note": "CREATE TABLE note (nid INTEGER, pid INTEGER NOT NULL, body TEXT NOT NULL, PRIMARY KEY (nid), SUBJECT pid)"}
+    "patient": "CREATE TABLE patient (pid INTEGER, name TEXT, phone TEXT, zip INTEGER, "
+               "PRIMARY KEY (pid), SUBJECT pid)",
+    "visit": "CREATE TABLE visit (vno INTEGER, pid INTEGER, ward TEXT, seen DATE, "
+             "PRIMARY KEY (vno), SUBJECT pid)",
+    "ward": "CREATE TABLE ward (site TEXT, room INTEGER, beds INTEGER NOT NULL, "
+            "PRIMARY KEY (room, site))",
+    "note": "CREATE TABLE note (nid INTEGER, pid INTEGER NOT NULL, body TEXT NOT NULL, "
+            "PRIMARY KEY (nid), SUBJECT pid)"}
 PURPOSES, RECIPIENTS = ["treatment", "billing", "care"], ["nurse", "clerk"]
 ITEMS, USERS = ["calls", "mail", "post"], ["ann", "bea", "carl"]
-TEXTS = ["'Ada'", "'Bob'", "'555-1'", "'south'", "'north'", "''", "'O''Hara'", "'\u00e9'", "'DENIED(0)'"]
+TEXTS = ["'Ada'", "'Bob'", "'555-1'", "'south'", "'north'", "''", "'O''Hara'", "'\u00e9'",
+         "'DENIED(0)'"]
+NUMBERS = [1, 1, 1, 1, 2, 2, 2, 3, 3, 4, 0, -1, 7, 95120, 9223372036854775807, -9223372036854775808]
 DAYS = ["DATE '2024-03-01'", "DATE '2024-02-29'", "date  '0001-01-01'", "DATE '9999-12-31'"]
+
+
+COMPARES = ["=", "=", "<>", "!=", "<", "<=", ">", ">="]
+FIRST_DAYS = ["0001-01-01", "2024-01-01", "2024-01-02", "2024-01-20", "2024-02-10"]
+LAST_DAYS = ["2024-01-15", "2024-03-01", "9999-12-31"]
+# Fields of records: odd ones for a number, then texts and days.
+ODD_FIELDS = ["007", "-0", "+1", "1x", "9223372036854775808"]
+TEXT_FIELDS = ["Ada", "Bob", '"O\'Hara, Pat"', '"say ""hi"""', "a\tb", " x", "\u00e9", '"x', 'a"b']
+DATE_FIELDS = ["2024-03-01", "2024-02-30", "0001-01-01", '"2024-02-29"']
+# What is put into a line to break it.
+ODD = [" ", "  ", "~", "'", "(", ")", ";", "x", "0", ",", "\t", " drop ", " sum ", "--", "\u00e9"]
+OTHERS = [
+    "", "   ", "# a comment", "hello", "65 logout", "01 logout", "0 logout", "1 fetch 5 1",
+    "0 step 1 5", "0 drop 1", "0 unwatch 9", "0 load patient 1,x,,", "0 load patient", "at",
+    "at yesterday", "1", "0 ", " 1 logout", "1 SELECT DISTINCT name FROM patient GROUP BY name",
+    "1 SELECT MAX(pid) FROM patient", "0 EXPLAIN 3", "1 EXTRACT SELECT name FROM patient",
+    "0 DROP TABLE patient", "1\tlogout", "1 logout\r",
+    "0 WATCH DURING '' TO '' AUDIT name FROM patient",
+    "0 BEGIN AUDIT DURING '' TO '' AUDIT name FROM patient",
+]
+
+
+def columns_in(table):
+    """The columns of a table; those of `patient` for an unknown one."""
+    return [column for column, _ in TABLES.get(table, TABLES["patient"])]
+
+
+def kinds_in(table):
+    return [kind for _, kind in TABLES.get(table, TABLES["patient"])]
 
 
 class Lines:
@@ -34,18 +71,23 @@ class Lines:
     def chance(self, share):
         return self.random.random() < share
 
+    def maybe(self, share, text):
+        return text if self.chance(share) else ""
+
     def some(self, members, low=1):
         return self.random.sample(members, self.random.randint(low, len(members)))
 
     def number(self):
-        return str(self.pick([1, 1, 1, 1, 2, 2, 2, 3, 3, 4, 0, -1, 7, 95120, 9223372036854775807, -9223372036854775808]))
+        return str(self.pick(NUMBERS))
 
     def value(self, kind):
         if self.chance(0.07):
             return "NULL"
         if self.chance(0.03):
             kind = self.pick(["INTEGER", "TEXT", "DATE"])
-        return {"INTEGER": self.number, "TEXT": lambda: self.pick(TEXTS), "DATE": lambda: self.pick(DAYS)}[kind]()
+        if kind == "INTEGER":
+            return self.number()
+        return self.pick(TEXTS if kind == "TEXT" else DAYS)
 
     def table(self):
         return "nobody" if self.chance(0.02) else self.pick(list(TABLES))
@@ -56,10 +98,10 @@ class Lines:
     def column(self, table):
         if self.chance(0.02):
             return "nocol"
-        return self.pick(TABLES.get(table, TABLES["patient"]))[0]
+        return self.pick(columns_in(table))
 
     def columns(self, table):
-        columns = self.some([c for c, _ in TABLES.get(table, TABLES["patient"])])
+        columns = self.some(columns_in(table))
         if self.chance(0.03):
             columns.append(self.pick(columns + ["nocol"]))
         return ", ".join(columns)
@@ -79,39 +121,52 @@ class Lines:
         return purpose, "cook" if self.chance(0.03) else self.pick(RECIPIENTS)
 
     def change(self):
-        table = self.table()
-        purpose, recipient = self.pair()
+        table, pair = self.table(), self.pair()
         kind = self.random.random()
         if kind < 0.36:
-            values = ", ".join(self.value(k) for _, k in TABLES.get(table, TABLES["patient"]))
-            return "INSERT INTO %s VALUES (%s%s)" % (table, values, ", NULL" if self.chance(0.02) else "")
+            values = ", ".join(self.value(kind) for kind in kinds_in(table))
+            return "INSERT INTO %s VALUES (%s%s)" % (table, values, self.maybe(0.02, ", NULL"))
         if kind < 0.52:
-            names = self.some([c for c, _ in TABLES.get(table, TABLES["patient"]) if c not in KEYS.get(table, [])])
-            if self.chance(0.05):
-                names.append(self.column(table))
-            sets = ", ".join("%s = %s" % (n, self.value(self.kind_of(table, n))) for n in names)
-            return "UPDATE %s SET %s WHERE %s" % (table, sets, self.keys(table))
+            return self.update(table)
         if kind < 0.60:
             return "DELETE FROM %s WHERE %s" % (table, self.keys(table))
         if kind < 0.76:
             rest = " WITH " + self.pick(ITEMS) if self.chance(0.4) else ""
             rest += " RETAIN %d DAYS" % self.pick([1, 2, 30, 36500]) if self.chance(0.2) else ""
-            return "ALLOW %s TO %s ON %s (%s)%s" % (purpose, recipient, table, self.columns(table), rest)
+            return "ALLOW %s TO %s ON %s (%s)%s" % (*pair, table, self.columns(table), rest)
         if kind < 0.82:
-            return "REVOKE %s TO %s ON %s (%s)" % (purpose, recipient, table, self.columns(table))
+            return "REVOKE %s TO %s ON %s (%s)" % (*pair, table, self.columns(table))
         if kind < 0.92:
-            return "CHOICE %s ON %s IS %s" % (self.number(), self.pick(ITEMS), self.pick(["YES", "NO"]))
+            subject, item = self.number(), self.pick(ITEMS)
+            return "CHOICE %s ON %s IS %s" % (subject, item, self.pick(["YES", "NO"]))
         if kind < 0.96:
-            return "%s %s FOR %s, %s" % (self.pick(["AUTHORIZE", "AUTHORIZE", "DEAUTHORIZE"]), self.pick(USERS), purpose, recipient)
-        return self.pick(["CREATE PURPOSE " + self.pick(PURPOSES), "CREATE RECIPIENT " + self.pick(RECIPIENTS),
-                          "CREATE ITEM %s OPT %s" % (self.pick(ITEMS), self.pick(["IN", "OUT"])), CREATED[self.pick(list(CREATED))],
-                          "CREATE TABLE t (a INTEGER, b TEXT, PRIMARY KEY (b), SUBJECT a)", "CREATE TABLE t (a TEXT, PRIMARY KEY (a), SUBJECT a)"])
+            word = self.pick(["AUTHORIZE", "AUTHORIZE", "DEAUTHORIZE"])
+            return "%s %s FOR %s, %s" % (word, self.pick(USERS), *pair)
+        return self.create()
+
+    def update(self, table):
+        names = self.some([c for c in columns_in(table) if c not in KEYS.get(table, [])])
+        if self.chance(0.05):
+            names.append(self.column(table))
+        sets = ", ".join("%s = %s" % (n, self.value(self.kind_of(table, n))) for n in names)
+        return "UPDATE %s SET %s WHERE %s" % (table, sets, self.keys(table))
+
+    def create(self):
+        return self.pick([
+            "CREATE PURPOSE " + self.pick(PURPOSES),
+            "CREATE RECIPIENT " + self.pick(RECIPIENTS),
+            "CREATE ITEM %s OPT %s" % (self.pick(ITEMS), self.pick(["IN", "OUT"])),
+            CREATED[self.pick(list(CREATED))],
+            "CREATE TABLE t (a INTEGER, b TEXT, PRIMARY KEY (b), SUBJECT a)",
+            "CREATE TABLE t (a TEXT, PRIMARY KEY (a), SUBJECT a)",
+        ])
 
     def operand(self, tables, kind):
         if self.chance(0.6):
-            candidate_columns = [(t, c) for t in tables for c, k in TABLES.get(t, []) if k == kind or self.chance(0.02)]
-            if candidate_columns:
-                table, column = self.pick(candidate_columns)
+            columns = [(t, c, k) for t in tables for c, k in TABLES.get(t, [])]
+            homes = [(t, c) for t, c, k in columns if k == kind or self.chance(0.02)]
+            if homes:
+                table, column = self.pick(homes)
                 return "%s.%s" % (table, column) if self.chance(0.6) or len(tables) > 1 else column
         return self.value(kind)
 
@@ -120,11 +175,13 @@ class Lines:
         left = self.operand(tables, kind)
         form = self.random.random()
         if form < 0.5:
-            return "%s %s %s" % (left, self.pick(["=", "=", "<>", "!=", "<", "<=", ">", ">="]), self.operand(tables, kind))
+            return "%s %s %s" % (left, self.pick(COMPARES), self.operand(tables, kind))
         if form < 0.65:
-            return "%s %sBETWEEN %s AND %s" % (left, self.pick(["", "NOT "]), self.operand(tables, kind), self.operand(tables, kind))
+            turn, low = self.pick(["", "NOT "]), self.operand(tables, kind)
+            return "%s %sBETWEEN %s AND %s" % (left, turn, low, self.operand(tables, kind))
         if form < 0.8:
-            members = ", ".join(self.operand(tables, kind) for _ in range(self.random.randint(1, 4)))
+            count = self.random.randint(1, 4)
+            members = ", ".join(self.operand(tables, kind) for _ in range(count))
             return "%s %sIN (%s)" % (left, self.pick(["", "NOT "]), members)
         return "%s IS %sNULL" % (left, self.pick(["", "NOT "]))
 
@@ -150,16 +207,19 @@ class Lines:
             if self.chance(0.5):
                 sources += ", " + tables[place]
             else:
-                sources += "%s JOIN %s ON %s" % (self.pick(["", " INNER"]), tables[place], self.test(tables[:place + 1]))
+                inner, on = self.pick(["", " INNER"]), self.test(tables[:place + 1])
+                sources += "%s JOIN %s ON %s" % (inner, tables[place], on)
         where = " WHERE " + self.condition(tables) if self.chance(0.7) else ""
         if self.chance(0.2):
             return self.grouped(tables, sources, where)
-        return "SELECT %s%s FROM %s%s" % ("DISTINCT " if self.chance(0.2) else "", items, sources, where)
+        return "SELECT %s%s FROM %s%s" % (self.maybe(0.2, "DISTINCT "), items, sources, where)
 
     def grouped(self, tables, sources, where):
         """A select with GROUP BY, most of whose columns are those of its list."""
         by = [self.column_of(tables) for _ in range(self.random.randint(1, 2))]
-        outs = list(by) + ["%s(%s)" % (self.pick(["MIN", "MAX"]), self.column_of(tables)) for _ in range(self.random.randint(0, 3))]
+        outs = list(by)
+        for _ in range(self.random.randint(0, 3)):
+            outs.append("%s(%s)" % (self.pick(["MIN", "MAX"]), self.column_of(tables)))
         self.random.shuffle(outs)
         if self.chance(0.05):
             outs.append(self.column_of(tables))
@@ -179,14 +239,18 @@ class Lines:
         """An audit expression over tables whose columns questions name, most of it right."""
         tables = list(dict.fromkeys(self.table() for _ in range(self.pick([1, 1, 2]))))
         columns = ", ".join(self.column_of(tables) for _ in range(self.pick([1, 1, 1, 2])))
-        first, last = sorted(self.pick(["0001-01-01", "2024-01-01", "2024-01-02", "2024-01-20", "2024-02-10"]) for _ in range(2))
-        first, last = first + "T00:00:00Z", self.pick(["2024-01-15", "2024-03-01", "9999-12-31", last]) + "T23:59:59Z"
+        first, last = sorted(self.pick(FIRST_DAYS) for _ in range(2))
+        first, last = first + "T00:00:00Z", self.pick([*LAST_DAYS, last]) + "T23:59:59Z"
         if self.chance(0.03):
             first, last = last, self.pick([first, "yesterday"])
-        exempt = " OTHERTHAN " + ", ".join("(%s, %s)" % self.pair() for _ in range(self.pick([1, 1, 2]))) if self.chance(0.15) else ""
+        exempt = ""
+        if self.chance(0.15):
+            pairs = ("(%s, %s)" % self.pair() for _ in range(self.pick([1, 1, 2])))
+            exempt = " OTHERTHAN " + ", ".join(pairs)
         where = " WHERE " + self.condition(tables) if self.chance(0.5) else ""
-        return "DURING '%s' TO '%s'%s AUDIT %s%s FROM %s%s" % (first, last, exempt, "SHOWN " if self.chance(0.3) else "", columns,
-                                                               ", ".join(tables), where)
+        shown = self.maybe(0.3, "SHOWN ") + columns
+        period = "DURING '%s' TO '%s'%s" % (first, last, exempt)
+        return "%s AUDIT %s FROM %s%s" % (period, shown, ", ".join(tables), where)
 
     def looking_back(self):
         kind = self.random.random()
@@ -195,7 +259,8 @@ class Lines:
         if kind < 0.45:
             return "0 BEGIN AUDIT " + self.audit()
         if kind < 0.65:
-            return "0 step %d %d" % (self.pick([1, 1, 1, 2, 3, 8]), self.pick([1, 3, 10, 40, 1000000]))
+            job = self.pick([1, 1, 1, 2, 3, 8])
+            return "0 step %d %d" % (job, self.pick([1, 3, 10, 40, 1000000]))
         if kind < 0.68:
             return "0 drop %d" % self.pick([1, 1, 2, 3])
         if kind < 0.76:
@@ -209,27 +274,30 @@ class Lines:
             return ""
         if self.chance(0.05):
             kind = self.pick(["INTEGER", "TEXT", "DATE"])
-        return {"INTEGER": lambda: self.pick([self.number(), self.number(), "007", "-0", "+1", "1x", "9223372036854775808"]),
-                "TEXT": lambda: self.pick(["Ada", "Bob", '"O\'Hara, Pat"', '"say ""hi"""', "a\tb", " x", "\u00e9", '"x', 'a"b']),
-                "DATE": lambda: self.pick(["2024-03-01", "2024-02-30", "0001-01-01", '"2024-02-29"'])}[kind]()
+        if kind == "INTEGER":
+            return self.pick([self.number(), self.number(), *ODD_FIELDS])
+        return self.pick(TEXT_FIELDS if kind == "TEXT" else DATE_FIELDS)
 
     def load(self):
         table = self.table()
-        record = ",".join(self.in_record(k) for _, k in TABLES.get(table, TABLES["patient"]))
+        record = ",".join(self.in_record(kind) for kind in kinds_in(table))
         if self.chance(0.05):
-            record = self.pick(["", "1", record + ",", record + "\r", "\r" + record, "1\r2", "\ufeff" + record])
+            record = self.pick(["", "1", record + ",", record + "\r", "\r" + record, "1\r2",
+                                "\ufeff" + record])
         return "0 load %s %s" % (table, record)
 
     def broken(self, text):
         """The text with one place changed."""
         place = self.random.randrange(len(text) + 1)
-        odd = self.pick([" ", "  ", "~", "'", "(", ")", ";", "x", "0", ",", "\t", " drop ", " sum ", "--", "\u00e9"])
+        odd = self.pick(ODD)
         if self.chance(0.4):
             return text[:place] + odd + text[place:]
         return text[:place] + text[place + self.random.randint(1, 4):]
 
     def in_case(self, text):
-        return text if self.chance(0.85) or "'" in text else self.pick([text.lower(), text.upper(), text.title()])
+        if self.chance(0.85) or "'" in text:
+            return text
+        return self.pick([text.lower(), text.upper(), text.title()])
 
     def line(self):
         kind = self.random.random()
@@ -239,7 +307,8 @@ class Lines:
         if kind < 0.33:
             return self.load()
         if kind < 0.54:
-            return "%d %s" % (0 if self.chance(0.02) else number, self.in_case(self.select()) + self.pick(["", "", "", ";", " "]))
+            who, select = 0 if self.chance(0.02) else number, self.in_case(self.select())
+            return "%d %s" % (who, select + self.pick(["", "", "", ";", " "]))
         if kind < 0.58:
             return "%d EXTRACT %s" % (number, self.in_case(self.select()))
         if kind < 0.70:
@@ -247,36 +316,41 @@ class Lines:
         if kind < 0.75:
             return "%d OPEN %s" % (number, self.in_case(self.select()))
         if kind < 0.81:
-            return "%d fetch %d %d" % (number, self.random.randint(1, 4), self.pick([1, 2, 3, 100000]))
+            cursor = self.random.randint(1, 4)
+            return "%d fetch %d %d" % (number, cursor, self.pick([1, 2, 3, 100000]))
         if kind < 0.83:
             return "%d close %d" % (number, self.random.randint(1, 5))
         if kind < 0.915:
-            purpose, recipient = ("treatment", "nurse") if self.chance(0.6) else self.pair()
-            return "%d %s %s %s %s" % (number, self.pick(["login", "LOGIN"]), self.pick(USERS), purpose, recipient)
+            pair = ("treatment", "nurse") if self.chance(0.6) else self.pair()
+            word, user = self.pick(["login", "LOGIN"]), self.pick(USERS)
+            return "%d %s %s %s %s" % (number, word, user, *pair)
         if kind < 0.92:
             return "%d logout" % number
-        if kind < 0.96:
-            self.second += self.pick([0, 1, 3600, 86400, 86399, -1])
-            day, second = divmod(max(self.second, 0), 86400)
-            return "at 2024-%02d-%02dT%02d:%02d:%02dZ" % (day // 28 % 12 + 1, day % 28 + 1, second // 3600, second // 60 % 60, second % 60)
-        return self.pick(["", "   ", "# a comment", "hello", "65 logout", "01 logout", "0 logout", "1 fetch 5 1", "0 step 1 5", "0 drop 1",
-                          "0 unwatch 9", "0 load patient 1,x,,", "0 load patient", "at", "at yesterday", "1", "0 ", " 1 logout",
-                          "1 SELECT DISTINCT name FROM patient GROUP BY name", "1 SELECT MAX(pid) FROM patient", "0 EXPLAIN 3",
-                          "1 EXTRACT SELECT name FROM patient", "0 DROP TABLE patient", "1\tlogout", "1 logout\r",
-                          "0 WATCH DURING '' TO '' AUDIT name FROM patient", "0 BEGIN AUDIT DURING '' TO '' AUDIT name FROM patient"])
+        return self.at() if kind < 0.96 else self.pick(OTHERS)
 
-    def all(self, count):
-        yield "at 2024-01-01T00:00:00Z"
-        for table in CREATED:
-            if not self.chance(0.1):
-                yield "0 " + CREATED[table]
-        for line in (["CREATE PURPOSE " + p for p in PURPOSES] + ["CREATE RECIPIENT " + r for r in RECIPIENTS]
-                     + ["CREATE ITEM calls OPT IN", "CREATE ITEM mail OPT OUT"]
-                     + ["AUTHORIZE %s FOR treatment, nurse" % u for u in USERS]):
+    def at(self):
+        self.second += self.pick([0, 1, 3600, 86400, 86399, -1])
+        day, second = divmod(max(self.second, 0), 86400)
+        date = "2024-%02d-%02d" % (day // 28 % 12 + 1, day % 28 + 1)
+        return "at %sT%02d:%02d:%02dZ" % (date, second // 3600, second // 60 % 60, second % 60)
+
+    def clinic(self):
+        """What creates the clinic; now and then a line of it is missing."""
+        lines = list(CREATED.values())
+        lines += ["CREATE PURPOSE " + purpose for purpose in PURPOSES]
+        lines += ["CREATE RECIPIENT " + recipient for recipient in RECIPIENTS]
+        lines += ["CREATE ITEM calls OPT IN", "CREATE ITEM mail OPT OUT"]
+        lines += ["AUTHORIZE %s FOR treatment, nurse" % user for user in USERS]
+        for line in lines:
             if not self.chance(0.1):
                 yield "0 " + line
         for table in TABLES:
-            yield "0 ALLOW treatment TO nurse ON %s (%s)" % (table, ", ".join(c for c, _ in TABLES[table]))
+            columns = ", ".join(columns_in(table))
+            yield "0 ALLOW treatment TO nurse ON %s (%s)" % (table, columns)
+
+    def all(self, count):
+        yield "at 2024-01-01T00:00:00Z"
+        yield from self.clinic()
         yield "1 login ann treatment nurse"
         for _ in range(count):
             line = self.line()

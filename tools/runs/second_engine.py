@@ -1,166 +1,29 @@
-#!/usr/bin/env python3
-"""A second engine for `hippo run`, written from the rules of the language alone: it shares no code with the proved one, searches
-lists where that has maps and plans, and audits by taking each tuple out of whole products. It reads statements with the second reader.
+#!/usr/bin/env -S python3 -B
+"""A second engine for `hippo run`, written from the rules of the language only.
 
-Standard input is the input of a run; the replies are printed. usage: second_engine.py [text|json|csv], the format of flags.
+It shares no code with the proved engine. It searches lists where that has maps and plans, and
+audits by removing each tuple from whole products. It reads statements with the second reader.
+
+Standard input is the input of a run; the replies are printed.
+usage: second_engine.py [text|json|csv], the format of flags
 """
 import itertools
 import json
-import os
-import re
 import sys
 
-sys.path.insert(0, os.path.join(os.path.dirname(os.path.abspath(__file__)), "..", "readers"))
-from second_reader import (BadSyntax, Fault, KEYWORDS, UNSUPPORTED, Reader, Rec, Tup, Unit,  # noqa: E402
-                           check_words, cut, days_before, leap, read_day, DAYS_IN)
-from second_records import field_value, records, written  # noqa: E402
+from second_queries import (audited_cells, bag, check_counts, check_grouped, check_kinds,
+                            check_texts, column_in, columns_shown, find_all, finder, fit,
+                            group_cell, named, passing, repeated)
+from second_records import field_value, records, written
+from second_values import (Refused, ascii_lower, field, fields, in_field, in_json, moment_text,
+                           name_of, number_in, operands, order_of, printed, read_day, read_moment,
+                           read_statement, select_of, tuple_text, value_of)
 
 SHORT_WORDS = ("login", "logout", "fetch", "close", "step", "drop", "unwatch", "load")
-NUMBER = re.compile(r"(0|[1-9][0-9]*)\Z")
-MOMENT = re.compile(rb"([0-9]{4}-[0-9]{2}-[0-9]{2})T([0-9]{2}):([0-9]{2}):([0-9]{2})Z\Z")
-NAME = re.compile(r"[A-Za-z][A-Za-z0-9_]{0,62}\Z")
-CHANGES = ("CreateTable", "CreatePurpose", "CreateRecipient", "CreateItem", "Authorize", "Deauthorize", "Allow", "Revoke",
-           "Choice", "Insert", "Update", "Delete")
-
-
-class Refused(Exception):
-    """A refusal: its code and name, and what it names."""
-
-
-def field(record, name):
-    return dict(record.fields)[name]
-
-
-def ascii_lower(text):
-    return "".join(c.lower() if "A" <= c <= "Z" else c for c in text)
-
-
-def name_of(word):
-    """The name that a word of a line is, or None."""
-    folded = ascii_lower(word)
-    if not NAME.match(word) or folded in KEYWORDS or folded in UNSUPPORTED:
-        return None
-    return folded
-
-
-def number_in(low, high, word):
-    return int(word) if NUMBER.match(word) and len(word) < 10 and low <= int(word) <= high else None
-
-
-def read_moment(text):
-    """Seconds since 1970-01-01T00:00:00Z, or None."""
-    m = MOMENT.match(text)
-    if not m:
-        return None
-    day = read_day(m.group(1))
-    hour, minute, second = (int(m.group(i)) for i in (2, 3, 4))
-    if day is None or hour > 23 or minute > 59 or second > 59:
-        return None
-    return day * 86400 + hour * 3600 + minute * 60 + second
-
-
-def day_text(day):
-    number = day + days_before(1970)
-    year = number * 400 // 146097 + 2
-    while days_before(year) > number:
-        year -= 1
-    rest = number - days_before(year)
-    month = 1
-    while True:
-        size = DAYS_IN[month - 1] + (1 if month == 2 and leap(year) else 0)
-        if rest < size:
-            return "%04d-%02d-%02d" % (year, month, rest + 1)
-        rest -= size
-        month += 1
-
-
-def moment_text(moment):
-    day, second = divmod(moment, 86400)
-    return "%sT%02d:%02d:%02dZ" % (day_text(day), second // 3600, second // 60 % 60, second % 60)
-
-
-# ---------------------------------------------------------------- values: (kind, value), and None for NULL
-
-
-def value_of(literal):
-    if literal.name == "Null":
-        return None
-    if literal.name == "Day":
-        return ("Date", field(literal.args[0], "day"))
-    return ({"Int": "Integer", "Text": "Text"}[literal.name], literal.args[0])
-
-
-def order_of(value):
-    kind, inner = value
-    return inner.encode() if kind == "Text" else inner
-
-
-def printed(cell):
-    """A cell is a value, or the number of a rule in a list of one."""
-    if isinstance(cell, list):
-        return "DENIED(%d)" % cell[0]
-    if cell is None:
-        return "NULL"
-    kind, inner = cell
-    if kind == "Text":
-        return "'" + inner.replace("'", "''") + "'"
-    return day_text(inner) if kind == "Date" else str(inner)
-
-
-def is_bad_text(value):
-    if value is None or value[0] != "Text":
-        return False
-    return len(value[1].encode()) > 4096 or any(ord(c) < 32 or ord(c) == 127 for c in value[1])
-
-
-# ---------------------------------------------------------------- conditions
-
-
-def operands(condition):
-    """The lists of operands that are compared with one another, in text order."""
-    kind = condition.name
-    if kind in ("All", "Any"):
-        return [part for inner in condition.args[0] for part in operands(inner)]
-    if kind == "Not":
-        return operands(condition.args[0])
-    if kind == "Compare":
-        return [[field(condition, "left"), field(condition, "right")]]
-    if kind == "Between":
-        return [[field(condition, "value"), field(condition, "low"), field(condition, "high")]]
-    if kind == "Among":
-        return [[field(condition, "value")] + field(condition, "list")]
-    return [[field(condition, "value")]]
-
-
-FALSE, UNKNOWN, TRUE = 0, 1, 2
-
-
-def compare(op, left, right):
-    if left is None or right is None:
-        return UNKNOWN
-    a, b = order_of(left), order_of(right)
-    return TRUE if {"Eq": a == b, "Ne": a != b, "Lt": a < b, "Le": a <= b, "Gt": a > b, "Ge": a >= b}[op] else FALSE
-
-
-def truth(condition, look):
-    kind = condition.name
-    if kind == "All":
-        return min([truth(part, look) for part in condition.args[0]], default=TRUE)
-    if kind == "Any":
-        return max([truth(part, look) for part in condition.args[0]], default=FALSE)
-    if kind == "Not":
-        return 2 - truth(condition.args[0], look)
-    if kind == "Compare":
-        return compare(field(condition, "op").name, look(field(condition, "left")), look(field(condition, "right")))
-    value = look(field(condition, "value"))
-    if kind == "Between":
-        return min(compare("Ge", value, look(field(condition, "low"))), compare("Le", value, look(field(condition, "high"))))
-    if kind == "Among":
-        return max(compare("Eq", value, look(other)) for other in field(condition, "list"))
-    return TRUE if value is None else FALSE
-
-
-# ---------------------------------------------------------------- the history
+CHANGES = ("CreateTable", "CreatePurpose", "CreateRecipient", "CreateItem", "Authorize",
+           "Deauthorize", "Allow", "Revoke", "Choice", "Insert", "Update", "Delete")
+VERSIONS = ("Insert", "Update", "Delete")
+BAD_LINE = "- no 10 BadLine"
 
 
 class Engine:
@@ -195,102 +58,93 @@ class Engine:
         return tuple(row[place] for place in table[3])
 
     def live(self, table, key):
-        """The row with a key, the moment of its birth, and the number of the last entry that names it; or None."""
+        """The row with a key, the moment of its birth and the number of its last entry; or None."""
         row = born = number = None
         for place, (moment, act) in enumerate(self.entries):
-            if act[0] in ("Insert", "Update") and act[1] == table[1] and self.key_of(table, act[2]) == key:
+            if act[0] not in VERSIONS or act[1] != table[1]:
+                continue
+            if act[0] == "Delete" and act[2] == key:
+                row = born = number = None
+            elif act[0] != "Delete" and self.key_of(table, act[2]) == key:
                 row, number = act[2], place + 1
                 born = moment if act[0] == "Insert" else born
-            elif act[0] == "Delete" and act[1] == table[1] and act[2] == key:
-                row = born = number = None
         return None if row is None else (row, born, number)
 
     def rows(self, table):
         keys = {self.key_of(table, act[2]) for _, act in self.entries
                 if act[0] in ("Insert", "Update") and act[1] == table[1]}
         found = [(key, self.live(table, key)) for key in keys]
-        return [(row[0], row[1]) for key, row in sorted(((k, r) for k, r in found if r is not None),
-                                                        key=lambda pair: [order_of(v) for v in pair[0]])]
+        found = [(key, row) for key, row in found if row is not None]
+        found.sort(key=lambda pair: [order_of(value) for value in pair[0]])
+        return [(row[0], row[1]) for _, row in found]
 
     def authorized(self, user, purpose, recipient):
-        number, act = self.last(lambda a: a[0] in ("Authorize", "Deauthorize") and a[1:] == (user, purpose, recipient))
+        asked, kinds = (user, purpose, recipient), ("Authorize", "Deauthorize")
+        number, act = self.last(lambda act: act[0] in kinds and act[1:] == asked)
         if act is None or act[0] == "Deauthorize":
             raise Refused("23 NotAuthorized", number)
 
     def verdict(self, purpose, recipient, table, row, born, place):
         """None where the cell is shown, else the number of the rule that denies it."""
-        number, rule = self.last(lambda a: a[0] in ("Allow", "Revoke") and a[1:4] == (purpose, recipient, table[1])
-                                 and place in a[4])
+        cells, kinds = (purpose, recipient, table[1]), ("Allow", "Revoke")
+        number, rule = self.last(
+            lambda act: act[0] in kinds and act[1:4] == cells and place in act[4]
+        )
         if rule is None or rule[0] == "Revoke":
             return number
         item, days = rule[5], rule[6]
         if days is not None and self.clock - born >= days * 86400:
             return number
         if item is not None:
-            kind = next(act[2] for _, act in self.entries if act[0] == "Item" and act[1] == item)
-            subject = row[table[4]][1]
-            _, choice = self.last(lambda a: a[0] == "Choice" and a[1:3] == (subject, item))
-            shown = choice[3] if choice is not None else kind == "OptOut"
-            if not shown:
+            asked = (row[table[4]][1], item)
+            _, choice = self.last(lambda act: act[0] == "Choice" and act[1:3] == asked)
+            if not (choice[3] if choice is not None else self.is_opt_out(item)):
                 return number
         return None
+
+    def is_opt_out(self, item):
+        return any(act[:3] == ("Item", item, "OptOut") for _, act in self.entries)
 
     def view(self, purpose, recipient, table):
         seen = []
         for row, born in self.rows(table):
-            words = [self.verdict(purpose, recipient, table, row, born, place) for place in range(len(row))]
-            if all(words[place] is None for place in table[3]):
-                seen.append([row[i] if words[i] is None else [words[i]] for i in range(len(row))])
+            rules = [self.verdict(purpose, recipient, table, row, born, place)
+                     for place in range(len(row))]
+            if all(rules[place] is None for place in table[3]):
+                seen.append([cell if rule is None else [rule] for cell, rule in zip(row, rules)])
         return seen
 
     # ------------------------------------------------------------ selects
 
     def resolve(self, select):
         """What a select asks for, once its names are found; raises the first refusal."""
-        names, items, condition = field(select, "tables"), field(select, "items"), field(select, "cond")
-        form = field(select, "form")
+        names, items = field(select, "tables"), field(select, "items")
+        condition, form = field(select, "cond"), field(select, "form")
         outs, by = (field(form, "outs"), field(form, "by")) if form.name == "Grouped" else ([], [])
+        tables = self.tables_named(names)
+        repeated(names)
+        find = finder(tables)
+        shown = columns_shown(items, tables, find)
+        outs_found = [(out.name, find(out.args[0])) for out in outs]
+        compared = operands(condition)
+        find_all(compared, find)
+        by_found = [find(column) for column in by]
+        check_grouped(outs, by, find)
+        check_kinds(tables, find, compared)
+        check_texts(compared)
+        check_counts((4, names), (128, items), (128, outs), (128, by))
+        return {"tables": tables, "shown": shown, "find": find, "condition": condition,
+                "form": form.name, "outs": outs_found, "by": by_found}
+
+    def tables_named(self, names):
         for name in names:
             if self.table(name) is None:
                 raise Refused("30 UnknownTable", name)
-        repeated(names)
-        tables = [self.table(name) for name in names]
-        find = finder(tables)
-        shown = []
-        for item in items:
-            if item.name == "One":
-                shown.append(find(item.args[0]))
-            else:
-                wanted = item.args[0] if item.name == "AllOf" else None
-                if wanted is not None and wanted not in names:
-                    raise Refused("31 UnknownColumn", wanted + ".*")
-                shown.extend((place, at) for place, table in enumerate(tables) if wanted in (None, table[1])
-                             for at in range(len(table[2])))
-        for out in outs:
-            find(out.args[0])
-        compared = operands(condition)
-        for group in compared:
-            for operand in group:
-                if operand.name == "Column":
-                    find(operand.args[0])
-        for column in by:
-            find(column)
-        plain = [out.args[0] for out in outs if out.name == "Column"]
-        for some, others in ((plain, by), (by, plain)):
-            for column in some:
-                if find(column) not in [find(other) for other in others]:
-                    raise Refused("60 NotGrouped", field(column, "column"))
-
-        check_kinds(tables, find, compared)
-        check_texts(compared)
-        for most, count in ((4, len(names)), (128, len(items)), (128, len(outs)), (128, len(by))):
-            if count > most:
-                raise Refused("50 TooManyParts", most)
-        return {"tables": tables, "shown": shown, "find": find, "condition": condition, "form": form.name,
-                "outs": [(out.name, find(out.args[0])) for out in outs], "by": [find(column) for column in by]}
+        return [self.table(name) for name in names]
 
     def answer(self, session, asked):
-        views = [self.view(session["purpose"], session["recipient"], table) for table in asked["tables"]]
+        pair = (session["purpose"], session["recipient"])
+        views = [self.view(*pair, table) for table in asked["tables"]]
         return self.rows_of(asked, passing(asked, views))
 
     def rows_of(self, asked, found):
@@ -303,30 +157,21 @@ class Engine:
         return rows
 
     def groups(self, asked, found):
-        """A row for each different list of the cells that are grouped by, in the order in which they come first."""
+        """A row for each different list of the cells of BY, in the order of their first members."""
         keys = [[combination[place][at] for place, at in asked["by"]] for combination in found]
         rows = []
         for first, key in enumerate(keys):
             if key in keys[:first]:
                 continue
             members = [combination for other, combination in zip(keys, found) if other == key]
-            row = []
-            for kind, (place, at) in asked["outs"]:
-                cells = [member[place][at] for member in members]
-                values = [cell for cell in cells if cell is not None and not isinstance(cell, list)]
-                if kind == "Column":
-                    row.append(cells[0])
-                elif not values:
-                    row.append(None)
-                else:
-                    row.append((min if kind == "Min" else max)(values, key=order_of))
-            rows.append(row)
+            rows.append([group_cell(kind, [member[place][at] for member in members])
+                         for kind, (place, at) in asked["outs"]])
         return rows
 
     # ------------------------------------------------------------ audits
 
     def before(self, number):
-        """What was before an entry, at its moment."""
+        """The engine as it was before an entry, at the moment of the entry."""
         past = Engine()
         past.clock = self.entries[number - 1][0]
         past.entries = self.entries[:number - 1]
@@ -337,63 +182,76 @@ class Engine:
         if number != 0:
             raise Refused("24 ConsoleOnly", None)
         names, condition = field(expression, "tables"), field(expression, "cond")
-        for name in names:
-            if self.table(name) is None:
-                raise Refused("30 UnknownTable", name)
-        for pair in field(expression, "exempt"):
+        exempt = field(expression, "exempt")
+        tables = self.tables_named(names)
+        for pair in exempt:
             self.known_pair(pair)
         repeated(names)
-        tables = [self.table(name) for name in names]
         find = finder(tables)
         columns = [find(column) for column in field(expression, "columns")]
         compared = operands(condition)
-        for group in compared:
-            for operand in group:
-                if operand.name == "Column":
-                    find(operand.args[0])
+        find_all(compared, find)
         check_kinds(tables, find, compared)
         check_texts(compared)
-        for most, count in ((4, len(names)), (128, len(columns)), (64, len(field(expression, "exempt")))):
-            if count > most:
-                raise Refused("50 TooManyParts", most)
+        check_counts((4, names), (128, columns), (64, exempt))
         begin, end = (read_moment(field(expression, word).encode()) for word in ("from", "to"))
         if begin is None or end is None:
             raise Refused("18 BadMoment", None)
         if end < begin:
             raise Refused("56 PeriodBack", None)
-        exempt = [(field(pair, "purpose"), field(pair, "recipient")) for pair in field(expression, "exempt")]
-        return {"names": names, "tables": tables, "columns": columns, "find": find, "condition": condition,
-                "begin": begin, "end": end, "exempt": exempt, "seen": field(expression, "shown")}
+        exempt = [(field(pair, "purpose"), field(pair, "recipient")) for pair in exempt]
+        return {"names": names, "tables": tables, "columns": columns, "find": find,
+                "condition": condition, "begin": begin, "end": end, "exempt": exempt,
+                "seen": field(expression, "shown")}
+
+    def in_period(self, audit, number):
+        """Whether an entry is a question that an audit looks at."""
+        moment, act = self.entries[number - 1]
+        if act[0] != "Asked" or not audit["begin"] <= moment <= audit["end"]:
+            return False
+        return act[2:4] not in audit["exempt"]
 
     def shared(self, audit, number):
-        """The first virtual tuple that serves, of an entry and an audit; or None."""
-        moment, act = self.entries[number - 1]
-        if act[0] != "Asked" or not audit["begin"] <= moment <= audit["end"] or act[2:4] in audit["exempt"]:
+        """The first virtual tuple of an audit that the question of an entry accessed; or None."""
+        if not self.in_period(audit, number):
             return None
-        past = self.before(number)
+        act, past = self.entries[number - 1][1], self.before(number)
         asked = past.resolve(select_of(act[4]))
         wanted = {(audit["names"][place], at) for place, at in audit["columns"]}
         if not wanted <= named(asked):
             return None
         names = [table[1] for table in asked["tables"]]
         common = [table for table in audit["tables"] if table[1] in names]
-        combinations = passing(asked, [past.view(act[2], act[3], table) for table in asked["tables"]])
-        whole = bag(past.rows_of(asked, combinations))
-        audited = passing(audit, [[row for row, _ in past.rows(table)] for table in audit["tables"]])
-        cells = lambda some: bag([[rows[place][at] for place, at in audit["columns"]] for rows in some])
-        for keys in itertools.product(*[[past.key_of(table, row) for row, _ in past.rows(table)] for table in common]):
-            chosen = {table[1]: key for table, key in zip(common, keys)}
-            has = lambda tables, rows: all(past.key_of(table, row) == chosen[table[1]]
-                                           for table, row in zip(tables, rows) if table[1] in chosen)
-            left = [rows for rows in combinations if not has(asked["tables"], rows)]
-            if bag(past.rows_of(asked, left)) == whole:
+        views = [past.view(act[2], act[3], table) for table in asked["tables"]]
+        answered, audited = passing(asked, views), passing(audit, past.rows_in(audit["tables"]))
+        answer, cells = bag(past.rows_of(asked, answered)), audited_cells(audit, audited)
+        for rows in itertools.product(*past.rows_in(common)):
+            chosen = {table[1]: past.key_of(table, row) for table, row in zip(common, rows)}
+            left = past.without(chosen, asked["tables"], answered)
+            if bag(past.rows_of(asked, left)) == answer:
                 continue
-            if cells([rows for rows in audited if not has(audit["tables"], rows)]) == cells(audited):
+            left = past.without(chosen, audit["tables"], audited)
+            if audited_cells(audit, left) == cells:
                 continue
-            if audit["seen"] and not all(past.was_seen(act, audit["tables"][place], chosen, at) for place, at in audit["columns"]):
-                continue
-            return list(chosen.items())
+            if not audit["seen"] or past.were_seen(act, audit, chosen):
+                return list(chosen.items())
         return None
+
+    def rows_in(self, tables):
+        """The rows of each table, without their births."""
+        return [[row for row, _ in self.rows(table)] for table in tables]
+
+    def without(self, chosen, tables, combinations):
+        """The combinations that do not have all chosen rows."""
+        def has_chosen(rows):
+            return all(self.key_of(table, row) == chosen[table[1]]
+                       for table, row in zip(tables, rows) if table[1] in chosen)
+        return [rows for rows in combinations if not has_chosen(rows)]
+
+    def were_seen(self, act, audit, chosen):
+        """Whether each audited cell of the chosen rows was shown to a question."""
+        tables = audit["tables"]
+        return all(self.was_seen(act, tables[place], chosen, at) for place, at in audit["columns"])
 
     def was_seen(self, act, table, chosen, at):
         row, born, _ = self.live(table, chosen[table[1]])
@@ -410,35 +268,43 @@ class Engine:
     def flag(self, number, shared):
         moment, act = self.entries[number - 1]
         if self.format == "json":
-            keys = [[table, [None if v is None else v[1] if v[0] != "Date" else day_text(v[1]) for v in key]] for table, key in shared]
-            return json.dumps({"moment": moment_text(moment), "pair": [act[2], act[3]], "query": number, "shared": keys,
-                               "user": act[1]}, separators=(",", ":"), ensure_ascii=False)
+            keys = [[table, [in_json(value) for value in key]] for table, key in shared]
+            members = {"moment": moment_text(moment), "pair": [act[2], act[3]], "query": number,
+                       "shared": keys, "user": act[1]}
+            return json.dumps(members, separators=(",", ":"), ensure_ascii=False)
         parts = [str(number), moment_text(moment), act[1], act[2], act[3], tuple_text(shared)]
         return written(parts) if self.format == "csv" else " ".join(parts)
 
     def alarms(self, number):
-        """What the watches say of an entry."""
-        found = [(watch, self.shared(audit, number)) for watch, audit in sorted(self.watches.items())]
-        return ["0 alarm %d %d %s" % (watch, number, tuple_text(shared)) for watch, shared in found if shared is not None]
+        """What the watches report of an entry."""
+        watches = sorted(self.watches.items())
+        found = [(watch, self.shared(audit, number)) for watch, audit in watches]
+        return ["0 alarm %d %d %s" % (watch, number, tuple_text(shared))
+                for watch, shared in found if shared is not None]
 
     def explain(self, number, asked_for):
         if number != 0:
             raise Refused("24 ConsoleOnly", None)
-        if not 1 <= asked_for <= len(self.entries) or self.entries[asked_for - 1][1][0] != "Asked":
+        is_entry = 1 <= asked_for <= len(self.entries)
+        if not is_entry or self.entries[asked_for - 1][1][0] != "Asked":
             raise Refused("58 NoSuchQuery", asked_for)
         act, past = self.entries[asked_for - 1][1], self.before(asked_for)
-        asked, lines = past.resolve(select_of(act[4])), []
-        for table in asked["tables"]:
-            for row, born in past.rows(table):
-                for at in range(len(row)):
-                    if at in table[3] or (table[1], at) in named(asked):
-                        rule = past.verdict(act[2], act[3], table, row, born, at)
-                        if rule is not None:
-                            where = tuple_text([(table[1], past.key_of(table, row))])
-                            lines.append("0 denied %s %s %d" % (where, table[2][at][0], rule))
+        asked = past.resolve(select_of(act[4]))
+        lines = ["0 denied %s %s %d" % cell for cell in past.denied_cells(act, asked)]
         if len(lines) > 100000:
             raise Refused("51 TooManyRows", None)
         return lines + ["0 end %d" % len(lines)]
+
+    def denied_cells(self, act, asked):
+        """The row, the column and the rule of each cell that was denied to a question."""
+        for table in asked["tables"]:
+            for row, born in self.rows(table):
+                for at in range(len(row)):
+                    if at in table[3] or (table[1], at) in named(asked):
+                        rule = self.verdict(act[2], act[3], table, row, born, at)
+                        if rule is not None:
+                            where = tuple_text([(table[1], self.key_of(table, row))])
+                            yield where, table[2][at][0], rule
 
     def begin(self, number, expression):
         audit = self.audit(number, expression)
@@ -469,7 +335,7 @@ class Engine:
         self.watches[free] = audit
         return ["0 watch %d" % free]
 
-    def let_go(self, number, held, at, missing):
+    def drop(self, number, held, at, missing):
         if number != 0:
             raise Refused("24 ConsoleOnly", None)
         if at not in held:
@@ -489,7 +355,8 @@ class Engine:
             raise Refused("61 BadRecord", None)
         if len(found[0]) != len(table[2]):
             raise Refused("42 WrongCount", len(table[2]))
-        row = [field_value(kind, inside, read_day) for inside, (_, kind, _) in zip(found[0], table[2])]
+        row = [field_value(kind, inside, read_day)
+               for inside, (_, kind, _) in zip(found[0], table[2])]
         for value, (column, _, _) in zip(row, table[2]):
             if isinstance(value, list):
                 raise Refused("62 BadField", column)
@@ -505,7 +372,8 @@ class Engine:
         return session, self.resolve(select)
 
     def log(self, session, text):
-        self.entries.append((self.clock, ("Asked", session["user"], session["purpose"], session["recipient"], text)))
+        act = ("Asked", session["user"], session["purpose"], session["recipient"], text)
+        self.entries.append((self.clock, act))
 
     # ------------------------------------------------------------ changes
 
@@ -531,7 +399,8 @@ class Engine:
             raise Refused("36 AlreadyThere", name)
 
     def do_CreateTable(self, statement):
-        columns = [(field(c, "name"), field(c, "kind").name, field(c, "not_null")) for c in field(statement, "columns")]
+        columns = [(field(column, "name"), field(column, "kind").name, field(column, "not_null"))
+                   for column in field(statement, "columns")]
         names, key = [c[0] for c in columns], field(statement, "key")
         subject = field(statement, "subject")
         subject = subject.args[0] if subject.name == "Some" else None
@@ -565,7 +434,7 @@ class Engine:
 
     def do_Authorize(self, statement):
         self.known_pair(statement)
-        return (statement.name, field(statement, "user"), field(statement, "purpose"), field(statement, "recipient"))
+        return (statement.name, *fields(statement, "user", "purpose", "recipient"))
 
     do_Deauthorize = do_Authorize
 
@@ -584,19 +453,19 @@ class Engine:
         places = self.rule_places(table, statement)
         if item is not None and table[4] is None:
             raise Refused("46 NoSubject", table[1])
-        return ("Allow", field(statement, "purpose"), field(statement, "recipient"), table[1], places, item,
-                days.args[0] if days.name == "Some" else None)
+        days = days.args[0] if days.name == "Some" else None
+        return ("Allow", *fields(statement, "purpose", "recipient"), table[1], places, item, days)
 
     def do_Revoke(self, statement):
         table = self.known_table(statement)
         self.known_pair(statement)
         places = self.rule_places(table, statement)
-        return ("Revoke", field(statement, "purpose"), field(statement, "recipient"), table[1], places)
+        return ("Revoke", *fields(statement, "purpose", "recipient"), table[1], places)
 
     def do_Choice(self, statement):
         if not self.exists("Item", field(statement, "item")):
             raise Refused("35 UnknownItem", field(statement, "item"))
-        return ("Choice", field(statement, "subject"), field(statement, "item"), field(statement, "yes"))
+        return ("Choice", *fields(statement, "subject", "item", "yes"))
 
     def do_Insert(self, statement):
         table = self.known_table(statement)
@@ -661,49 +530,58 @@ class Engine:
         return self.sessions[number]
 
     def short_word(self, number, word, words):
-        if word == "login":
-            names = [name_of(w) for w in words]
-            if len(words) != 3 or None in names:
-                return None
-            if number == 0:
-                raise Refused("25 SessionsOnly", None)
-            if number in self.sessions:
-                raise Refused("21 SessionOpen", None)
-            self.authorized(*names)
-            self.sessions[number] = {"user": names[0], "purpose": names[1], "recipient": names[2], "cursors": {}}
-            return ["%d ok" % number]
-        if word == "logout":
-            if words:
-                return None
-            self.session(number)
-            del self.sessions[number]
-            return ["%d ok" % number]
-        if word == "fetch":
-            cursor = number_in(1, 4, words[0]) if len(words) == 2 else None
-            count = number_in(1, 100000, words[1]) if len(words) == 2 else None
-            if cursor is None or count is None:
-                return None
-            held = self.cursor(number, cursor)
-            rows = held["rows"][held["given"]:held["given"] + count]
-            held["given"] += len(rows)
-            left = held["given"] < len(held["rows"])
-            return row_lines(number, rows) + ["%d %s %d" % (number, "part" if left else "end", held["given"])]
-        if word == "close":
-            cursor = number_in(1, 4, words[0]) if len(words) == 1 else None
-            if cursor is None:
-                return None
-            self.cursor(number, cursor)
-            del self.sessions[number]["cursors"][cursor]
-            return ["%d ok" % number]
-        if word == "step":
-            if len(words) != 2 or number_in(1, 8, words[0]) is None or number_in(1, 1000000, words[1]) is None:
-                return None
-            return self.step(number, int(words[0]), int(words[1]))
+        """The replies to a short word; None where its words are wrong."""
+        if word in ("login", "logout", "fetch", "close", "step"):
+            return getattr(self, "word_" + word)(number, words)
         at = number_in(1, 8, words[0]) if len(words) == 1 else None
         if at is None:
             return None
         held, missing = (self.jobs, "55 NoJob") if word == "drop" else (self.watches, "64 NoWatch")
-        return self.let_go(number, held, at, missing)
+        return self.drop(number, held, at, missing)
+
+    def word_login(self, number, words):
+        names = [name_of(word) for word in words]
+        if len(words) != 3 or None in names:
+            return None
+        if number == 0:
+            raise Refused("25 SessionsOnly", None)
+        if number in self.sessions:
+            raise Refused("21 SessionOpen", None)
+        self.authorized(*names)
+        session = dict(zip(("user", "purpose", "recipient"), names))
+        self.sessions[number] = session | {"cursors": {}}
+        return ["%d ok" % number]
+
+    def word_logout(self, number, words):
+        if words:
+            return None
+        self.session(number)
+        del self.sessions[number]
+        return ["%d ok" % number]
+
+    def word_fetch(self, number, words):
+        cursor = number_in(1, 4, words[0]) if len(words) == 2 else None
+        count = number_in(1, 100000, words[1]) if len(words) == 2 else None
+        if cursor is None or count is None:
+            return None
+        held = self.cursor(number, cursor)
+        rows = held["rows"][held["given"]:held["given"] + count]
+        held["given"] += len(rows)
+        word = "part" if held["given"] < len(held["rows"]) else "end"
+        return row_lines(number, rows) + ["%d %s %d" % (number, word, held["given"])]
+
+    def word_close(self, number, words):
+        cursor = number_in(1, 4, words[0]) if len(words) == 1 else None
+        if cursor is None:
+            return None
+        self.cursor(number, cursor)
+        del self.sessions[number]["cursors"][cursor]
+        return ["%d ok" % number]
+
+    def word_step(self, number, words):
+        job = number_in(1, 8, words[0]) if len(words) == 2 else None
+        count = number_in(1, 1000000, words[1]) if len(words) == 2 else None
+        return None if job is None or count is None else self.step(number, job, count)
 
     def cursor(self, number, cursor):
         cursors = self.session(number)["cursors"]
@@ -713,22 +591,7 @@ class Engine:
 
     def statement(self, number, text):
         data = text.encode()
-        try:
-            tokens = cut(data)
-        except Fault as fault:
-            raise Refused({"BadToken": "12", "NumberTooLarge": "16", "BadDate": "17"}[fault.name] + " " + fault.name,
-                          fault.place)
-        words = check_words(tokens)
-        if words == "TooDeep":
-            raise Refused("15 TooDeep", None)
-        if words is not None:
-            raise Refused("14 Unsupported", tokens[int(words[12:-1])][1].upper())
-        reader = Reader(tokens)
-        try:
-            statement = reader.statement()
-            reader.all_read()
-        except BadSyntax:
-            raise Refused("13 BadSyntax", None)
+        statement = read_statement(data)
         kind = statement.name
         if kind in CHANGES:
             if number != 0:
@@ -758,9 +621,11 @@ class Engine:
         if kind == "Ask":
             session["cursors"][free] = {"rows": rows, "given": 0}
             return ["%d cursor %d" % (number, free)]
+        end = ["%d end %d" % (number, len(rows))]
         if kind == "Extract":
-            return ["%d csv %s" % (number, written([in_field(cell) for cell in row])) for row in rows] + ["%d end %d" % (number, len(rows))]
-        return row_lines(number, rows) + ["%d end %d" % (number, len(rows))]
+            texts = (written([in_field(cell) for cell in row]) for row in rows)
+            return ["%d csv %s" % (number, text) for text in texts] + end
+        return row_lines(number, rows) + end
 
     def at(self, word):
         moment = read_moment(word.encode())
@@ -772,37 +637,39 @@ class Engine:
         return ["- ok"]
 
     def line(self, data):
-        """The lines that a line of the input is replied."""
+        """The lines of the reply to a line of the input."""
         if len(data) > 65536:
             return ["- no 11 LineTooLong"]
-        if data.endswith(b"\r"):
-            data = data[:-1]
         try:
-            text = data.decode()
+            text = data.removesuffix(b"\r").decode()
         except UnicodeDecodeError:
-            return ["- no 10 BadLine"]
+            return [BAD_LINE]
         if text.strip(" ") == "" or text.startswith("#"):
             return []
-        bad = ["- no 10 BadLine"]
-        words = [w for w in text.split(" ") if w]
+        words = [word for word in text.split(" ") if word]
         if text.startswith(" "):
-            return bad
+            return [BAD_LINE]
         if ascii_lower(words[0]) == "at":
-            return guarded("-", lambda: self.at(words[1])) if len(words) == 2 else bad
+            is_whole = len(words) == 2
+            return guarded("-", lambda: self.at(words[1])) if is_whole else [BAD_LINE]
         number = number_in(0, 64, words[0])
         if number is None or len(words) < 2:
-            return bad
-        word = ascii_lower(words[1])
+            return [BAD_LINE]
+        word, rest = ascii_lower(words[1]), text[len(words[0]) + 1:]
         if word == "load":
-            behind = text[len(words[0]):].lstrip(" ")[4:].lstrip(" ")
-            table, space, _ = behind.partition(" ")
-            if not space or name_of(table) is None:
-                return bad
-            return guarded(number, lambda: self.load(number, name_of(table), behind[len(table) + 1:]))
+            return self.load_line(number, rest)
         if word in SHORT_WORDS:
             replies = guarded(number, lambda: self.short_word(number, word, words[2:]))
-            return bad if replies is None else replies
-        return guarded(number, lambda: self.statement(number, text[len(words[0]) + 1:]))
+            return [BAD_LINE] if replies is None else replies
+        return guarded(number, lambda: self.statement(number, rest))
+
+    def load_line(self, number, text):
+        """The reply to a line of the word `load`, a table and a record."""
+        table, space, record = text.lstrip(" ")[4:].lstrip(" ").partition(" ")
+        name = name_of(table)
+        if not space or name is None:
+            return [BAD_LINE]
+        return guarded(number, lambda: self.load(number, name, record))
 
 
 def guarded(who, call):
@@ -814,110 +681,7 @@ def guarded(who, call):
 
 
 def row_lines(number, rows):
-    return ["%d row %s" % (number, ", ".join(printed(cell) for cell in row)) for row in rows]
-
-
-# ---------------------------------------------------------------- names and combinations
-
-
-def finder(tables):
-    """What finds the one column that a reference names."""
-    def find(column):
-        qualifier = field(column, "table")
-        wanted = qualifier.args[0] if qualifier.name == "Some" else None
-        name = field(column, "column")
-        candidate_columns = [(place, at) for place, table in enumerate(tables) if wanted in (None, table[1])
-                 for at, other in enumerate(table[2]) if other[0] == name]
-        if not candidate_columns:
-            raise Refused("31 UnknownColumn", name if wanted is None else wanted + "." + name)
-        if len(candidate_columns) > 1:
-            raise Refused("32 AmbiguousColumn", name)
-        return candidate_columns[0]
-    return find
-
-
-def check_kinds(tables, find, compared):
-    def kind_of(operand):
-        if operand.name == "Column":
-            place, at = find(operand.args[0])
-            return tables[place][2][at][1]
-        value = value_of(operand.args[0])
-        return None if value is None else value[0]
-    for group in compared:
-        if len({kind_of(operand) for operand in group} - {None}) > 1:
-            raise Refused("40 TypeMismatch", None)
-
-
-def check_texts(compared):
-    for group in compared:
-        for operand in group:
-            if operand.name == "Literal" and is_bad_text(value_of(operand.args[0])):
-                raise Refused("47 BadText", None)
-
-
-def passing(asked, tables):
-    """The combinations of rows of which a condition is true."""
-    found = []
-    for combination in itertools.product(*tables):
-        def look(operand):
-            if operand.name == "Literal":
-                return value_of(operand.args[0])
-            place, at = asked["find"](operand.args[0])
-            cell = combination[place][at]
-            return None if isinstance(cell, list) else cell
-        if truth(asked["condition"], look) == TRUE:
-            found.append(combination)
-    return found
-
-
-def bag(rows):
-    return sorted(repr(row) for row in rows)
-
-
-def named(asked):
-    """The columns that stand anywhere in a query, by table and place."""
-    places = list(asked["shown"]) + [at for _, at in asked["outs"]] + asked["by"]
-    places += [asked["find"](operand.args[0]) for group in operands(asked["condition"]) for operand in group if operand.name == "Column"]
-    return {(asked["tables"][place][1], at) for place, at in places}
-
-
-def select_of(text):
-    """The select that a logged text writes."""
-    return field(Reader(cut(text.encode())).statement(), "select")
-
-
-def tuple_text(shared):
-    return " ".join("%s(%s)" % (table, ", ".join(printed(value) for value in key)) for table, key in shared)
-
-
-def in_field(cell):
-    return "" if cell is None else cell[1] if isinstance(cell, tuple) and cell[0] == "Text" else printed(cell)
-
-
-def repeated(names):
-    for place, name in enumerate(names):
-        if name in names[:place]:
-            raise Refused("37 RepeatedName", name)
-
-
-def column_in(table, name):
-    for place, column in enumerate(table[2]):
-        if column[0] == name:
-            return place
-    raise Refused("31 UnknownColumn", name)
-
-
-def fit(table, values):
-    """Whether values fit the columns at these places: kinds, then NULLs, then texts."""
-    for place, value in values:
-        if value is not None and value[0] != table[2][place][1]:
-            raise Refused("40 TypeMismatch", None)
-    for place, value in values:
-        if value is None and table[2][place][2]:
-            raise Refused("41 NullNotAllowed", table[2][place][0])
-    for place, value in values:
-        if is_bad_text(value):
-            raise Refused("47 BadText", None)
+    return ["%d row %s" % (number, ", ".join(map(printed, row))) for row in rows]
 
 
 def main():

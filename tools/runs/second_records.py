@@ -1,11 +1,12 @@
-"""Records of CSV (RFC 4180) as a run reads and writes them, written from the rules alone."""
+"""Records of CSV (RFC 4180) as a run reads and writes them, written from the rules only."""
 import re
 
 INTEGER = re.compile(r"-?[0-9]+\Z")
 
 
 def records(text):
-    """The records that a text is, each a list of fields. Empty lines are none; a quote that is not closed ends with the text."""
+    """The records of a text, each a list of fields. An empty line is no record. A quote that is not
+    closed ends with the text."""
     found, fields, here, quoted = [], [], None, False
     at = 1 if text.startswith("\ufeff") else 0
     while at < len(text):
@@ -34,7 +35,7 @@ def records(text):
 
 
 def field_value(kind, text, read_day):
-    """The value of a field, or its text in a list of one where it is not of the column's form."""
+    """The value of a field; its text in a list where it does not have the form of the column."""
     if text == "":
         return None
     if kind == "Integer":
@@ -50,4 +51,8 @@ def written(fields):
     """A record without its line end."""
     if fields == [""]:
         return '""'
-    return ",".join('"%s"' % f.replace('"', '""') if any(c in f for c in '",\r\n') else f for f in fields)
+    return ",".join(map(written_field, fields))
+
+
+def written_field(text):
+    return '"%s"' % text.replace('"', '""') if re.search('[",\r\n]', text) else text

@@ -1,4 +1,4 @@
-"""Writes the lines of each worked row of hippo_try_runs that is a run in which nothing fails, a file a row.
+"""Writes the input of each worked row of hippo_try_runs that is a run without faults, a file a row.
 
 usage: worked_rows.py FOLDER
 """
@@ -6,16 +6,42 @@ import pathlib
 import re
 import sys
 
-HERE = pathlib.Path(__file__).resolve().parent
-ROWS = HERE.parent.parent / "crates/hippo_try_runs"
+sys.path.insert(0, str(pathlib.Path(__file__).resolve().parent.parent))
+from common import CRATES
+
+ROWS = CRATES / "hippo_try_runs"
 FAULTS = {"reads", "writes", "fails", "keeps", "room"}
 
 
 def clinic():
     """The lines of the clinic, as the program has them."""
     source = (ROWS / "src/cases.rt").read_text()
-    block = source[source.index("const CLINIC") : source.index("];", source.index("const CLINIC"))]
-    return [line for line in re.findall(r'^    "(.*)",$', block, re.M)]
+    start = source.index("const CLINIC")
+    block = source[start : source.index("];", start)]
+    return re.findall(r'^    "(.*)",$', block, re.M)
+
+
+def lines(members):
+    return "".join(f"{line}\n" for line in members).encode()
+
+
+def input_of(word, text):
+    """What a line of a row adds to the input; None where it adds nothing."""
+    if word == "line":
+        return lines([text])
+    if word == "part":
+        return text.encode()
+    if word == "bytes":
+        return bytes(map(int, text.split()))
+    if word == "clinic":
+        return lines(clinic())
+    count, _, rest = text.partition(" ")
+    if word == "times":
+        return rest.encode() * int(count)
+    if word == "numbered":
+        front, _, end = rest.partition("#")
+        return lines(f"{front}{number}{end}" for number in range(int(count)))
+    return None
 
 
 def rows():
@@ -23,23 +49,11 @@ def rows():
     words, parts, failing = [], [], False
     for row in (ROWS / "stdin").read_text().splitlines():
         word, _, text = row.partition(" ")
+        part = input_of(word, text)
         if word == "word":
             words.append(text)
-        elif word == "line":
-            parts.append(text.encode() + b"\n")
-        elif word == "part":
-            parts.append(text.encode())
-        elif word == "times":
-            count, _, rest = text.partition(" ")
-            parts.append(rest.encode() * int(count))
-        elif word == "numbered":
-            count, _, rest = text.partition(" ")
-            front, _, back = rest.partition("#")
-            parts.append("".join(f"{front}{number}{back}\n" for number in range(int(count))).encode())
-        elif word == "bytes":
-            parts.append(bytes(map(int, text.split())))
-        elif word == "clinic":
-            parts.append("".join(f"{line}\n" for line in clinic()).encode())
+        elif part is not None:
+            parts.append(part)
         elif word in FAULTS:
             failing = True
         elif word in ("call", "again"):
