@@ -1,5 +1,5 @@
 -- How many bytes of an input were taken.
-use Rattle.std.proofs.Common.{◌≡◌, ◌≢◌, ℕ, ◌<◌, ◌≤◌, ◌↔◌, List, ◌++◌, ◌∷◌, [], length, drop, Option, Some, None, MatchOption, Result, Err, option_map, sym, ap, subst, ◌∙◌, arith, length-drop}
+use Rattle.std.proofs.Common.{◌≡◌, ◌≢◌, ℕ, ◌<◌, ◌≤◌, ◌↔◌, List, ◌++◌, ◌∷◌, [], length, drop, Option, Some, None, IfNone, MatchOption, Result, Err, option_map, sym, ap, subst, ◌∙◌, arith, length-drop}
 use Rattle.hippo_values.specs.Texts.{Txt}
 use Rattle.hippo_io.specs.Lines.{LineText, lines}
 use Rattle.hippo_io.specs.declared.lines.Line.{Line}
@@ -17,6 +17,11 @@ use Rattle.hippo_program_args.specs.Endings.{status_of}
 use Rattle.hippo_serve_jobs.specs.Loads.{asked_line, counted_line}
 use Rattle.hippo_serve_jobs.specs.Runs.{HasTakenBytes, IsHandingOut, Turn}
 use Rattle.hippo_serve_jobs.proofs.TurnLemmas.{by_line}
+
+-- what holds anyway holds if there is no value
+pub if_none : {A P : Type 0} (o : Option A) → P → IfNone o P
+if_none None holds = holds
+if_none (Some x) holds = tt
 
 -- nothing was taken
 pub none_taken : (status : ℕ) (input : Txt) (left : Option Txt) → left ≡ Some input → status ≢ 0 → status ≢ 8 → HasTakenBytes status input left

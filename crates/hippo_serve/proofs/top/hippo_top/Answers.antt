@@ -21,7 +21,9 @@ pub returns-clause-status : goal.returns-clause-status
 returns-clause-status g c = status-listed c.drill.result _ c.status-in-Drill.ensures
 
 pub returns-in-Run-clause-served : goal.returns-in-Run-clause-served
-returns-in-Run-clause-served g c = λ job setting asks tells. (search rules, search rules, search rules, search rules, search rules, search rules, search rules, search rules)
+returns-in-Run-clause-served g c = λ job setting asks tells view fits.
+    let ends = c.run.ensures.ends tells view fits in
+    (search rules, search rules, search rules, search rules, search rules, search rules, search rules, search rules)
 
 pub returns-in-Check-clause-counted : goal.returns-in-Check-clause-counted
 returns-in-Check-clause-counted g c = λ job tells. check_as_asked c.args.words.now c.in-Some.call (sym c.in-Ok.ensures ∙ c.in-Some.is) c.as_str-store.result.now c.as_str-store.ensures

@@ -1,7 +1,8 @@
 -- For any input, the lines read so far have their replies; each line takes at least one byte.
-use Rattle.std.proofs.Common.{◌≡◌, ◌-◌, ◌≤◌, None, true, false}
+use Rattle.std.proofs.Common.{◌≡◌, ◌-◌, ◌≤◌, None, true, false, IsFalse}
 use Rattle.hippo_values.specs.Texts.{Txt}
 use Rattle.hippo_io.specs.HandingOut.{bytes_handed_out, input_limit}
+use Rattle.hippo_io.specs.Inputs.{ForEachInput, ReadsOn}
 use Rattle.hippo_model.specs.Terms.{History}
 use Rattle.hippo_keeper.specs.Keeping.{IsAfterCall}
 use Rattle.hippo_engine.specs.Carrying.{AtWork}
@@ -19,12 +20,16 @@ invariant-loop-ending g l = record {
   sink_faults : g.K.Sink.faults l.sink ≡ g.K.Sink.faults l.initial.sink;
   call : IsAfterCall true false (part_as_call None) (g.P.Keeper.state l.initial.keeper) (g.P.Keeper.state l.keeper);
   at_work : AtWork l.self.engine (g.P.Keeper.state l.keeper);
-  reading : (input : Txt) → IsHandingOut input l.initial.self.reader (g.S.Source.left l.initial.source) → IsHandingOut input l.self.reader (g.S.Source.left l.source);
-  served : (g.P.Keeper.state l.keeper).tells → (setting : Setting) (history : History) (before : Told)
+  on : ReadsOn (g.S.Source.reads l.initial.source) (g.S.Source.reads l.source);
+  going : IsFalse l.self.reader.ended → (g.S.Source.reads l.source).ended ≡ (g.S.Source.reads l.initial.source).ended;
+  reading : ForEachInput (g.S.Source.left l.initial.source) (g.S.Source.reads l.initial.source) (g.S.Source.left l.source) (g.S.Source.reads l.source)
+      (λ left left'. (input : Txt) → IsHandingOut input l.initial.self.reader left → IsHandingOut input l.self.reader left');
+  served : (g.P.Keeper.state l.keeper).tells → ForEachInput (g.S.Source.left l.initial.source) (g.S.Source.reads l.initial.source) (g.S.Source.left l.source) (g.S.Source.reads l.source)
+      (λ left left'. (setting : Setting) (history : History) (before : Told)
       → HasServed setting l.job history before l.initial.self.reader l.initial.self.engine
-      (outside (g.S.Source.left l.initial.source) (g.K.Sink.written l.initial.sink) (g.P.Keeper.state l.initial.keeper) l.initial.steps)
+      (outside left (g.K.Sink.written l.initial.sink) (g.P.Keeper.state l.initial.keeper) l.initial.steps)
       → HasServed setting l.job history before l.self.reader l.self.engine
-      (outside (g.S.Source.left l.source) (g.K.Sink.written l.sink) (g.P.Keeper.state l.keeper) l.steps);
+      (outside left' (g.K.Sink.written l.sink) (g.P.Keeper.state l.keeper) l.steps));
 }
 
 abbrev pub decreases-loop-ending : goal.decreases-loop-ending

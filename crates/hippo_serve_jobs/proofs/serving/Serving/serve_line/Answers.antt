@@ -1,9 +1,13 @@
 -- What a call with a line does to the run.
-use Rattle.std.proofs.Common.{◌<◌, ◌≤◌, refl, ap}
+use Rattle.std.proofs.Common.{◌<◌, ◌≤◌, refl, ap, arith}
+use Rattle.hippo_io.specs.Inputs.{exposed, left_in}
+use Rattle.hippo_io.proofs.SeenLemmas.{NextLine-seen}
 use Rattle.hippo_io.specs.HandingOut.{input_limit}
 use Rattle.hippo_io.specs.LineTexts.{line_text}
 use Rattle.hippo_serve_jobs.proofs.RunLemmas.{within_limit, cut_off}
-use Rattle.hippo_serve_jobs.proofs.TakenLemmas.{within_read, read_by_turn}
+use Rattle.hippo_program_args.specs.declared.endings.Ending.TheVariants.{ReadFault, TooMuch}
+use Rattle.hippo_program_args.specs.Endings.{status_of}
+use Rattle.hippo_serve_jobs.proofs.TakenLemmas.{if_none, within_read, given_up, read_by_turn}
 use Rattle.hippo_serve_jobs.proofs.TurnLemmas.{status_of_turn, no_read_fault, call_of_turn, at_work_after_turn, served_by_turn}
 use Rattle.hippo_serve_jobs.proofs.serving.Serving.serve_line.Goals as goal
 
@@ -28,33 +32,79 @@ returns-in-Ok-clause-read_fault g c = λ is. absurd (no_read_fault c.args.job.no
     (λ is. ((c.carry_out.ensures.end is).0, (c.carry_out.ensures.end is).1, ap g.K.Sink.written (c.carry_out.ensures.end is).3, (c.carry_out.ensures.end is).4)) (λ is. ap g.P.Keeper.state (c.carry_out.ensures.end is).2) is)
 
 pub returns-in-Ok-clause-read : goal.returns-in-Ok-clause-read
-returns-in-Ok-clause-read g c = λ input reading.
-    let next = rw (c.in-Ok.is) at c.next_line.follows.holds-at-none in
+returns-in-Ok-clause-read g c = λ view fits input reading.
+    let all = rw (c.in-Ok.is) at c.next_line.follows.holds-at-none in
+    let next = NextLine-seen view c.args.self.now.reader c.next_line.follows.lender-at-none _ _ _ _ _ all c.requires.reader (λ over. ap g.S.Source.reads (c.next_line.ensures.after_end over)) fits in
     read_by_turn c.args.job.now (line_text c.in-Ok.line) (line_text c.asked.result) c.carry_out.result c.args.self.now.engine c.carry_out.new.engine (g.P.Keeper.state c.args.keeper.now) (g.P.Keeper.state c.carry_out.new.keeper)
     (g.K.Sink.written c.args.sink.now) (g.K.Sink.written c.carry_out.new.sink) c.args.steps.now c.carry_out.new.steps c.asked.ensures c.carry_out.ensures.line
     (λ is. ((c.carry_out.ensures.end is).0, (c.carry_out.ensures.end is).1, ap g.K.Sink.written (c.carry_out.ensures.end is).3, (c.carry_out.ensures.end is).4)) (λ is. ap g.P.Keeper.state (c.carry_out.ensures.end is).2)
-    input c.args.self.now.reader c.next_line.follows.lender-at-none (g.S.Source.left c.args.source.now) (g.S.Source.left c.next_line.new.source) reading
+    input c.args.self.now.reader c.next_line.follows.lender-at-none (left_in view (g.S.Source.left c.args.source.now) (g.S.Source.reads c.args.source.now))
+    (left_in view (g.S.Source.left c.next_line.new.source) (g.S.Source.reads c.next_line.new.source)) reading
     (within_limit c.in-Ok.line c.next_line.follows.lender-at-none.taken next.too_much) (next.line input reading.handed reading.handing)
 
 pub returns-in-Ok-clause-served : goal.returns-in-Ok-clause-served
-returns-in-Ok-clause-served g c = λ tells setting history before served.
-    let next = rw (c.in-Ok.is) at c.next_line.follows.holds-at-none in
+returns-in-Ok-clause-served g c = λ tells view fits setting history before served.
+    let all = rw (c.in-Ok.is) at c.next_line.follows.holds-at-none in
+    let next = NextLine-seen view c.args.self.now.reader c.next_line.follows.lender-at-none _ _ _ _ _ all c.requires.reader (λ over. ap g.S.Source.reads (c.next_line.ensures.after_end over)) fits in
     served_by_turn c.args.job.now (line_text c.in-Ok.line) (line_text c.asked.result) c.carry_out.result c.args.self.now.engine c.carry_out.new.engine (g.P.Keeper.state c.args.keeper.now) (g.P.Keeper.state c.carry_out.new.keeper)
     (g.K.Sink.written c.args.sink.now) (g.K.Sink.written c.carry_out.new.sink) c.args.steps.now c.carry_out.new.steps c.asked.ensures c.carry_out.ensures.line
     (λ is. ((c.carry_out.ensures.end is).0, (c.carry_out.ensures.end is).1, ap g.K.Sink.written (c.carry_out.ensures.end is).3, (c.carry_out.ensures.end is).4)) (λ is. ap g.P.Keeper.state (c.carry_out.ensures.end is).2)
-    setting history before c.args.self.now.reader c.next_line.follows.lender-at-none (g.S.Source.left c.args.source.now) (g.S.Source.left c.next_line.new.source) served
+    setting history before c.args.self.now.reader c.next_line.follows.lender-at-none (left_in view (g.S.Source.left c.args.source.now) (g.S.Source.reads c.args.source.now))
+    (left_in view (g.S.Source.left c.next_line.new.source) (g.S.Source.reads c.next_line.new.source)) served
     (within_limit c.in-Ok.line c.next_line.follows.lender-at-none.taken next.too_much) tells (λ input is. next.line input served.handed (served.handing input is))
 
+pub returns-in-Ok-clause-on : goal.returns-in-Ok-clause-on
+returns-in-Ok-clause-on g c = let all = rw (c.in-Ok.is) at c.next_line.follows.holds-at-none in all.on
+
+pub returns-in-Ok-clause-still : goal.returns-in-Ok-clause-still
+returns-in-Ok-clause-still g c = λ over. ap g.S.Source.reads (c.next_line.ensures.after_end over)
+
+pub returns-in-Ok-clause-going : goal.returns-in-Ok-clause-going
+returns-in-Ok-clause-going g c =
+    let all = rw (c.in-Ok.is) at c.next_line.follows.holds-at-none in
+    if_none c.carry_out.result (λ going. all.going going (all.next exposed tt).failure)
+
+pub returns-in-Err-Read-clause-read : goal.returns-in-Err-Read-clause-read
+returns-in-Err-Read-clause-read g c = λ view fits input reading.
+    let all = rw (c.in-Err-Read.is, c.in-Err-Read.field-0-is) at c.next_line.follows.holds-at-none in
+    let next = NextLine-seen view c.args.self.now.reader c.next_line.follows.lender-at-none _ _ _ _ _ all c.requires.reader (λ over. ap g.S.Source.reads (c.next_line.ensures.after_end over)) fits in
+    let within : c.next_line.follows.lender-at-none.taken ≤ input_limit = within_read c.next_line.follows.lender-at-none.taken next.too_much in
+    given_up input reading.handed c.next_line.follows.lender-at-none _ (next.gives_up input reading.handed reading.handing) (status_of ReadFault)
+    (λ e. omega (arith, e)) (λ e. omega (arith, e), λ more. omega (arith, more, within))
+
 pub returns-in-Err-Read-clause-served : goal.returns-in-Err-Read-clause-served
-returns-in-Err-Read-clause-served g c = λ tells setting history before served.
-    let next = rw (c.in-Err-Read.is, c.in-Err-Read.field-0-is) at c.next_line.follows.holds-at-none in
-    cut_off setting c.args.job.now history before c.args.self.now.reader c.next_line.follows.lender-at-none c.args.self.now.engine c.args.self.now.engine (g.S.Source.left c.args.source.now) (g.S.Source.left c.next_line.new.source)
+returns-in-Err-Read-clause-served g c = λ tells view fits setting history before served.
+    let all = rw (c.in-Err-Read.is, c.in-Err-Read.field-0-is) at c.next_line.follows.holds-at-none in
+    let next = NextLine-seen view c.args.self.now.reader c.next_line.follows.lender-at-none _ _ _ _ _ all c.requires.reader (λ over. ap g.S.Source.reads (c.next_line.ensures.after_end over)) fits in
+    cut_off setting c.args.job.now history before c.args.self.now.reader c.next_line.follows.lender-at-none c.args.self.now.engine c.args.self.now.engine (left_in view (g.S.Source.left c.args.source.now) (g.S.Source.reads c.args.source.now))
+    (left_in view (g.S.Source.left c.next_line.new.source) (g.S.Source.reads c.next_line.new.source))
     (g.K.Sink.written c.args.sink.now) (g.K.Sink.written c.args.sink.now) (g.P.Keeper.state c.args.keeper.now) (g.P.Keeper.state c.args.keeper.now) c.args.steps.now c.args.steps.now served
     (λ taken. taken ≤ input_limit) (within_read c.next_line.follows.lender-at-none.taken next.too_much) (λ input is. next.gives_up input served.handed (served.handing input is))
 
+pub returns-in-Err-Read-clause-on : goal.returns-in-Err-Read-clause-on
+returns-in-Err-Read-clause-on g c = let all = rw (c.in-Err-Read.is, c.in-Err-Read.field-0-is) at c.next_line.follows.holds-at-none in all.on
+
+pub returns-in-Err-Read-clause-still : goal.returns-in-Err-Read-clause-still
+returns-in-Err-Read-clause-still g c = λ over. ap g.S.Source.reads (c.next_line.ensures.after_end over)
+
+pub returns-in-Err-TooMuch-clause-read : goal.returns-in-Err-TooMuch-clause-read
+returns-in-Err-TooMuch-clause-read g c = λ view fits input reading.
+    let all = rw (c.in-Err-TooMuch.is, c.in-Err-TooMuch.field-0-is) at c.next_line.follows.holds-at-none in
+    let next = NextLine-seen view c.args.self.now.reader c.next_line.follows.lender-at-none _ _ _ _ _ all c.requires.reader (λ over. ap g.S.Source.reads (c.next_line.ensures.after_end over)) fits in
+    given_up input reading.handed c.next_line.follows.lender-at-none _ (next.gives_up input reading.handed reading.handing) (status_of TooMuch)
+    (λ e. omega (arith, e)) (λ e. next.too_much.0 refl, λ more. refl)
+
 pub returns-in-Err-TooMuch-clause-served : goal.returns-in-Err-TooMuch-clause-served
-returns-in-Err-TooMuch-clause-served g c = λ tells setting history before served.
-    let next = rw (c.in-Err-TooMuch.is, c.in-Err-TooMuch.field-0-is) at c.next_line.follows.holds-at-none in
-    cut_off setting c.args.job.now history before c.args.self.now.reader c.next_line.follows.lender-at-none c.args.self.now.engine c.args.self.now.engine (g.S.Source.left c.args.source.now) (g.S.Source.left c.next_line.new.source)
+returns-in-Err-TooMuch-clause-served g c = λ tells view fits setting history before served.
+    let all = rw (c.in-Err-TooMuch.is, c.in-Err-TooMuch.field-0-is) at c.next_line.follows.holds-at-none in
+    let next = NextLine-seen view c.args.self.now.reader c.next_line.follows.lender-at-none _ _ _ _ _ all c.requires.reader (λ over. ap g.S.Source.reads (c.next_line.ensures.after_end over)) fits in
+    cut_off setting c.args.job.now history before c.args.self.now.reader c.next_line.follows.lender-at-none c.args.self.now.engine c.args.self.now.engine (left_in view (g.S.Source.left c.args.source.now) (g.S.Source.reads c.args.source.now))
+    (left_in view (g.S.Source.left c.next_line.new.source) (g.S.Source.reads c.next_line.new.source))
     (g.K.Sink.written c.args.sink.now) (g.K.Sink.written c.args.sink.now) (g.P.Keeper.state c.args.keeper.now) (g.P.Keeper.state c.args.keeper.now) c.args.steps.now c.args.steps.now served
     (λ taken. input_limit < taken) (next.too_much.0 refl) (λ input is. next.gives_up input served.handed (served.handing input is))
+
+pub returns-in-Err-TooMuch-clause-on : goal.returns-in-Err-TooMuch-clause-on
+returns-in-Err-TooMuch-clause-on g c = let all = rw (c.in-Err-TooMuch.is, c.in-Err-TooMuch.field-0-is) at c.next_line.follows.holds-at-none in all.on
+
+pub returns-in-Err-TooMuch-clause-still : goal.returns-in-Err-TooMuch-clause-still
+returns-in-Err-TooMuch-clause-still g c = λ over. ap g.S.Source.reads (c.next_line.ensures.after_end over)
