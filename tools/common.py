@@ -119,7 +119,7 @@ def times_each(counts):
 
 # ---------------------------------------------------------------- stores
 
-# The table that holds the entries, and what stock SQLite is told of it.
+# The table that holds the entries, in the words of stock SQLite.
 HISTORY = (
     "history (seq INTEGER PRIMARY KEY, moment INTEGER NOT NULL, kind INTEGER NOT NULL, "
     "tbl TEXT NOT NULL, body BLOB NOT NULL) STRICT"
@@ -131,7 +131,7 @@ READ_ENTRIES = "SELECT seq, moment, kind, tbl, body FROM history ORDER BY seq"
 
 def sound_entries(store):
     """The entries that stock SQLite reads in a store; None where the database is not sound."""
-    import sqlite3  # (not every python3 has it, and few tools want it)
+    import sqlite3  # (not every python3 has it, and few tools need it)
 
     with contextlib.closing(sqlite3.connect(store)) as connection:
         is_sound = connection.execute("PRAGMA integrity_check").fetchall() == [("ok",)]
@@ -191,8 +191,8 @@ class Intercepted:
         """Its exit status, what it wrote, and how many calls it made; None where it was killed."""
         reader, writer = os.pipe()
         settings |= {"LD_PRELOAD": str(self.library), "CHOSEN_CALL": str(chosen)}
-        told = {"env": settings, "preexec_fn": lambda: os.dup2(writer, 3), "pass_fds": (3,)}
-        status, output, errors = run([HIPPO, *words], text, **told)
+        how = {"env": settings, "preexec_fn": lambda: os.dup2(writer, 3), "pass_fds": (3,)}
+        status, output, errors = run([HIPPO, *words], text, **how)
         os.close(writer)
         with open(reader, "rb") as pipe:
             calls = pipe.read()
