@@ -25,7 +25,8 @@ Times are processor times, in user and system mode:
 - Two audits of a patient who has no rows show what reading the versions of rows and the questions
   costs. The other audits show how much longer they take.
 
-At 17,500 people, 400,000 lab values and 34,000 events ask fewer questions, or expect some minutes.
+The default run takes about a minute. With 17,500 people, 400,000 lab values and 34,000 events, 20
+questions and 4 audits take about two minutes, most of it for the audits.
 
 Build first: cd crates/hippo && rt run -- run < stdin
 usage: tools/beside-sqlite --random [--program FILE] [--seed S] [--people N] [--labs N]
