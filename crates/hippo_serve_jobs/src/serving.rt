@@ -216,8 +216,8 @@ impl Serving {
             (λ ending. LinesEnd ending setting job.now history before
             (outside left' (K.written sink.new) (P.state keeper.new) steps.new))) }
         ensures on { ReadsOn (S.reads source.old) (S.reads source.new) }
-        ensures still { IsTrue self.old.reader.ended
-            → S.reads source.new ≡ S.reads source.old }
+        ensures still { IsTrue self.old.reader.ended → (S.reads source.new ≡ S.reads source.old)
+            × (self.new.reader ≡ self.old.reader) }
         ensures going { IfNone result (IsFalse self.new.reader.ended
             → (S.reads source.new).ended ≡ (S.reads source.old).ended) }
         ensures read_fault { result ≡ Some ReadFault

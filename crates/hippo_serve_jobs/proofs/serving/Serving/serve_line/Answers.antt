@@ -1,14 +1,15 @@
 -- What a call with a line does to the run.
-use Rattle.std.proofs.Common.{◌<◌, ◌≤◌, refl, ap, arith}
+use Rattle.std.proofs.Common.{◌≡◌, ◌<◌, ◌≤◌, Option, None, IfNone, IfSome, refl, ap, subst, arith}
+use Rattle.hippo_io.specs.Lines.{LineText}
 use Rattle.hippo_io.specs.Inputs.{exposed, left_in}
 use Rattle.hippo_io.proofs.SeenLemmas.{NextLine-seen}
-use Rattle.hippo_io.specs.HandingOut.{input_limit}
+use Rattle.hippo_io.specs.HandingOut.{input_limit, bytes_handed_out}
 use Rattle.hippo_io.specs.LineTexts.{line_text}
 use Rattle.hippo_serve_jobs.proofs.RunLemmas.{within_limit, cut_off}
 use Rattle.hippo_program_args.specs.declared.endings.Ending.TheVariants.{ReadFault, TooMuch}
 use Rattle.hippo_program_args.specs.Endings.{status_of}
 use Rattle.hippo_serve_jobs.proofs.TakenLemmas.{if_none, within_read, given_up, read_by_turn}
-use Rattle.hippo_serve_jobs.proofs.TurnLemmas.{status_of_turn, no_read_fault, call_of_turn, at_work_after_turn, served_by_turn}
+use Rattle.hippo_serve_jobs.proofs.TurnLemmas.{by_line, status_of_turn, no_read_fault, call_of_turn, at_work_after_turn, served_by_turn}
 use Rattle.hippo_serve_jobs.proofs.serving.Serving.serve_line.Goals as goal
 
 pub returns-in-Ok-clause-status : goal.returns-in-Ok-clause-status
@@ -57,7 +58,9 @@ pub returns-in-Ok-clause-on : goal.returns-in-Ok-clause-on
 returns-in-Ok-clause-on g c = let all = rw (c.in-Ok.is) at c.next_line.follows.holds-at-none in all.on
 
 pub returns-in-Ok-clause-still : goal.returns-in-Ok-clause-still
-returns-in-Ok-clause-still g c = λ over. ap g.S.Source.reads (c.next_line.ensures.after_end over)
+returns-in-Ok-clause-still g c = λ over.
+    let all = rw (c.in-Ok.is) at c.next_line.follows.holds-at-none in
+    (ap g.S.Source.reads (c.next_line.ensures.after_end over), ((all.next exposed tt).over c.requires.reader over).1)
 
 pub returns-in-Ok-clause-going : goal.returns-in-Ok-clause-going
 returns-in-Ok-clause-going g c =
@@ -85,7 +88,9 @@ pub returns-in-Err-Read-clause-on : goal.returns-in-Err-Read-clause-on
 returns-in-Err-Read-clause-on g c = let all = rw (c.in-Err-Read.is, c.in-Err-Read.field-0-is) at c.next_line.follows.holds-at-none in all.on
 
 pub returns-in-Err-Read-clause-still : goal.returns-in-Err-Read-clause-still
-returns-in-Err-Read-clause-still g c = λ over. ap g.S.Source.reads (c.next_line.ensures.after_end over)
+returns-in-Err-Read-clause-still g c = λ over.
+    let all = rw (c.in-Err-Read.is, c.in-Err-Read.field-0-is) at c.next_line.follows.holds-at-none in
+    (ap g.S.Source.reads (c.next_line.ensures.after_end over), ((all.next exposed tt).over c.requires.reader over).1)
 
 pub returns-in-Err-TooMuch-clause-read : goal.returns-in-Err-TooMuch-clause-read
 returns-in-Err-TooMuch-clause-read g c = λ view fits input reading.
@@ -107,4 +112,26 @@ pub returns-in-Err-TooMuch-clause-on : goal.returns-in-Err-TooMuch-clause-on
 returns-in-Err-TooMuch-clause-on g c = let all = rw (c.in-Err-TooMuch.is, c.in-Err-TooMuch.field-0-is) at c.next_line.follows.holds-at-none in all.on
 
 pub returns-in-Err-TooMuch-clause-still : goal.returns-in-Err-TooMuch-clause-still
-returns-in-Err-TooMuch-clause-still g c = λ over. ap g.S.Source.reads (c.next_line.ensures.after_end over)
+returns-in-Err-TooMuch-clause-still g c = λ over.
+    let all = rw (c.in-Err-TooMuch.is, c.in-Err-TooMuch.field-0-is) at c.next_line.follows.holds-at-none in
+    (ap g.S.Source.reads (c.next_line.ensures.after_end over), ((all.next exposed tt).over c.requires.reader over).1)
+
+pub returns-in-Ok-clause-goes_on : goal.returns-in-Ok-clause-goes_on
+returns-in-Ok-clause-goes_on g c =
+    let all = rw (c.in-Ok.is) at c.next_line.follows.holds-at-none in
+    let plain = all.next exposed tt in
+    let old = c.args.self.now.reader in
+    let new = c.next_line.follows.lender-at-none in
+    by_line c.args.job.now (line_text c.in-Ok.line) (line_text c.asked.result) c.carry_out.result c.args.self.now.engine c.carry_out.new.engine (g.P.Keeper.state c.args.keeper.now) (g.P.Keeper.state c.carry_out.new.keeper)
+    (g.K.Sink.written c.args.sink.now) (g.K.Sink.written c.carry_out.new.sink) c.args.steps.now c.carry_out.new.steps c.asked.ensures c.carry_out.ensures.line
+    (λ is. ((c.carry_out.ensures.end is).0, (c.carry_out.ensures.end is).1, ap g.K.Sink.written (c.carry_out.ensures.end is).3, (c.carry_out.ensures.end is).4)) (λ is. ap g.P.Keeper.state (c.carry_out.ensures.end is).2)
+    (λ r. IfNone r ((new.failure ≡ None) × (bytes_handed_out old < bytes_handed_out new) × (new.taken ≤ input_limit)))
+    (λ is. tt)
+    (λ text is carries writes. (
+      plain.failure,
+      subst (λ (l : Option LineText). IfSome l (λ t. bytes_handed_out old < bytes_handed_out new)) is plain.progress,
+      within_limit c.in-Ok.line new.taken plain.too_much,
+    ))
+    (λ text is carries writes. tt)
+    (λ text is carries writes. tt)
+    (λ text is number carries. (tt, tt))
