@@ -8,5 +8,6 @@ mod LoopLemmas
 mod NameLemmas
 mod PolicyLemmas
 mod PageLemmas
+mod DigestLemmas
 mod QuestionLemmas
 mod CommandLineExamples
