@@ -49,17 +49,17 @@ some_there : (piece : Store) → ¬ (piece ≡ []) → 0 < length piece
 some_there [] some = absurd (some refl)
 some_there (entry ∷ piece) some = omega arith
 
-take_of_none : (n : ℕ) → take n ([] : Store) ≡ []
-take_of_none zero = refl
-take_of_none (suc n) = refl
+take_of_none : (n : ℕ) (rest : Store) → rest ≡ [] → take n rest ≡ []
+take_of_none zero rest none = refl
+take_of_none (suc n) rest none = ap (take (suc n)) none
 
 same_answer : (one other : Bool) → ok_of Fault one ≡ Ok other → one ≡ other
 same_answer one other e = cc
 
 -- a read that failed, whatever its result would have been
-failed_alike : {A B : Type 0} (fault : Fault) → has_failed (err_of A fault) ≡ has_failed (err_of B fault)
-failed_alike keeper_faults.Failed = refl
-failed_alike keeper_faults.Memory = refl
+failed_alike : (A B : Type 0) (fault : Fault) → has_failed (err_of A fault) ≡ has_failed (err_of B fault)
+failed_alike A B keeper_faults.Failed = refl
+failed_alike A B keeper_faults.Memory = refl
 
 -- as many entries as are asked for are covered
 pub DigestsNext-full : (last : ℕ) (keeper : KeeperState) (chain : Chain) (ticks : ℕ) → IsReady true keeper → chain.count ≤ last → min 1000 (last - chain.count) ≡ 0
@@ -115,7 +115,7 @@ module _ (last max : ℕ) (before after : KeeperState) (old : Chain) (ticks tick
       nothing = λ e. none_by empty piece is (same_answer (not empty) false e);
       ended = λ e tells read rest upto.
           let none = none_by empty piece is (same_answer (not empty) false e) in
-          ap (take (last - old.count)) (nothing_taken max rest some (sym (handed tells read rest upto) ∙ none)) ∙ take_of_none (last - old.count);
+          take_of_none (last - old.count) rest (nothing_taken max rest some (sym (handed tells read rest upto) ∙ none));
     }
 
   -- a call on the keeper failed
@@ -124,7 +124,7 @@ module _ (last max : ℕ) (before after : KeeperState) (old : Chain) (ticks tick
   DigestsNext-fault fault within reads counted = record {
     piece = [];
     hands = record {
-      call = IsAfterCall-as true false (err_of Store fault) (err_of Bool fault) before after (failed_alike fault) reads.call;
+      call = IsAfterCall-as true false (err_of Store fault) (err_of Bool fault) before after (failed_alike Bool Store fault) reads.call;
       stays = λ tells. KeepsSame-Stays before after (reads.stays tells);
       steps = counted;
     };
@@ -220,7 +220,7 @@ module _ (last : ℕ) (before now : KeeperState) (chain : Chain) (ticks ticks' :
     pub DigestsAll-fault : (fault : Fault) → result ≡ Err fault → DigestsAll last (Err fault) before after ticks ticks''
     DigestsAll-fault fault is = record {
       read = so_far.read ++ next.piece;
-      hands = both_handed (err_of Chain fault) (failed_alike fault ∙ ap has_failed (sym is));
+      hands = both_handed (err_of Chain fault) (failed_alike Chain Bool fault ∙ ap has_failed (sym is));
       told = longer;
       whole = tt;
     }

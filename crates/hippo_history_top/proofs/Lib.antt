@@ -10,4 +10,5 @@ mod PolicyLemmas
 mod PageLemmas
 mod DigestLemmas
 mod QuestionLemmas
+mod DigestExamples
 mod CommandLineExamples
