@@ -105,8 +105,8 @@ pub record HasAdded (limit : ℕ) (wanted : List Denial) (versions : ℕ)
   pub adds : AddsDenials limit wanted result old new
   pub few : steps' ≤ steps + versions
 
--- what reading tables does to a keeper. It adds the wanted cells of the history in the store, if
--- its contents are known and the history fits.
+-- what reading the tables of a logged query does to a keeper. It adds the wanted cells of the
+-- history in the store, if its contents are known and the history fits.
 pub record ReadsDenials (fits : History → Type 0) (wanted : History → List Denial)
     (count : History → ℕ) (limit : ℕ)
     (result : Result (Unit {0}) DenialsFault) (old new : List Denial) (before after : KeeperState)

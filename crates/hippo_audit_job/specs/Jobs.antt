@@ -17,8 +17,8 @@ use Rattle.hippo_audit_job.specs.declared.jobs.Job.{Job}
 use Rattle.hippo_audit_job.specs.Looking.{is_question_in_period}
 use Rattle.hippo_audit_job.specs.Examining.{Examination, MovesOn, AreWithin, IsPastOf, IsAuditOf}
 
--- an audit job in a `World`: its audit, the length of the history when it began, the last number it
--- looked at, and the flags that are not written yet
+-- an audit job in a `World`: its audit, the history's length when it began, the last number it
+-- looked at, and the flags not written
 pub record OpenAudit : Type 0 where
   pub audit : Audit
   pub length : ℕ

@@ -31,9 +31,9 @@ pub record Holds (history : History) (engine : Engine) (keeper : KeeperState) : 
   pub jobs : JobsFit history engine.world
   pub watches : WatchesFit history engine.world
 
--- what a command requires of an engine and its keeper: the state represents some history; the clock
+-- what a command requires of an engine and its keeper. The state represents some history; the clock
 -- is not before the last entry; the keeper is started and neither spent nor closed; if the store's
--- contents are known, engine and keeper hold a history
+-- contents are known, engine and keeper hold a history.
 pub record AtWork (engine : Engine) (keeper : KeeperState) : Type 0 where
   pub sound : IsSound engine.state
   pub timely : IsTimely engine.state engine.world.clock
@@ -63,16 +63,16 @@ IsText line = Unit {0}
 abbrev pub shown_effect : Engine → Effect
 shown_effect engine = only_reply (world_of engine.world) engine.reply
 
--- a command that neither adds an entry nor reads the store has its effect, for every history that
--- the state represents; jobs and watches do not change
+-- a command that neither adds an entry nor reads the store has its effect, and jobs and watches do
+-- not change. This holds for every history that the state represents.
 pub record IsQuiet (command : Command) (old new : Engine) : Type 0 where
   pub same : new.state ≡ old.state
   pub effect : (history : History) → Represents old.state history
       → IsEffect history (world_of old.world) command (shown_effect new)
   pub audits : KeepsAudits old.world new.world
 
--- the same, but jobs and watches may change: those that fitted the history still do, and no step is
--- taken
+-- a command that adds no entry has its effect, and the jobs and watches that fitted the history
+-- still do. No step is taken. This holds for every history that the state represents.
 pub record AddsNothing (command : Command) (old new : Engine) : Type 0 where
   pub same : new.state ≡ old.state
   pub effect : (history : History) → Represents old.state history
@@ -85,9 +85,9 @@ pub record AddsNothing (command : Command) (old new : Engine) : Type 0 where
       → Tallies command new.reply versions steps steps (tallies_of old.world)
       (tallies_of new.world)
 
--- a command has its effect after a history: the engine shows the effect's reply and world, engine
+-- a command has its effect after a history. The engine shows the effect's reply and world, engine
 -- and keeper hold the history with the added entries, steps and jobs are tallied, and a refusal
--- takes no step, except the one that is found by reading
+-- takes no step, except the one that is found by reading.
 pub record HasEffect (history : History) (command : Command) (old new : Engine)
     (before after : KeeperState) (steps steps' : ℕ) : Type 0 where
   pub effect : Effect
@@ -122,9 +122,9 @@ BreaksOff history command old before after =
     BreaksOffAdding history command old before after
     ⊎ BreaksOffReading history command old before after
 
--- a command is carried out, or the keeper fails, or it returns data that it did not keep; the clock
--- is not before the last entry; if the store's contents are known, the command has its effect on
--- them or is broken off by the keeper's failure, and nothing is damaged
+-- a command is carried out, or the keeper fails, or it returns data that it did not keep. The clock
+-- is not before the last entry. If the store's contents are known, the command has its effect on
+-- them or is broken off by the keeper's failure, and nothing is damaged.
 pub record Carries {A : Type 0} (command : Command) (result : Result A EngineFault)
     (old new : Engine)
     (before after : KeeperState) (steps steps' : ℕ) : Type 0 where

@@ -32,6 +32,7 @@ question_act question =
 abbrev pub next_entry : History → World → Act → Entry
 next_entry history world act = record { seq = length history + 1; moment = world.clock; act = act }
 
+-- what is done for a command that is not refused
 pub data Deed : Type 0 where
   do_nothing : Deed
   set_clock : Moment → Deed

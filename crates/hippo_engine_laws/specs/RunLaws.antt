@@ -17,9 +17,9 @@ use Rattle.hippo_engine_laws.specs.Lines.{IsDone, NoneJudged}
 use Rattle.hippo_engine_laws.specs.Jobs.{HasWritten, last_end, flags_in}
 use Rattle.hippo_engine_laws.specs.Watches.{answer_to, alarm_texts, question_answered, HasHeard}
 
--- after the line that begins an audit as a job, and until the job is dropped, its steps write the
--- audit's flags of the history at its beginning, however the job is cut and whatever lines come
--- between
+-- the steps of a job write its audit's flags of the history at its beginning, however the job is
+-- cut and whatever lines come between. This holds after the line that begins the job, until it is
+-- dropped.
 abbrev pub AnyCut : Type 0
 AnyCut =
     (history : History) (world : World) (line : LineText) (effect : Effect) (lines : List LineText)
@@ -29,8 +29,8 @@ AnyCut =
     → NoneJudged (deeds.drop_job number) (history ++ effect.added) effect.world lines effects
     → HasWritten number audit history (history ++ effect.added) effect.world lines effects
 
--- if the last line says that the job has ended, the flags that were written and that line are the
--- reply that one DURING has when the job begins
+-- the flags that an ended job has written, and its last line, are the reply that one DURING has
+-- when the job begins. The last line says that the job has ended.
 abbrev pub StepsReplyAsOneAudit : Type 0
 StepsReplyAsOneAudit =
     (number : ℕ) (audit : Audit) (start history : History) (world : World) (lines : List LineText)
@@ -40,8 +40,8 @@ StepsReplyAsOneAudit =
     → (deed_effect start beginning (deeds.audit audit)).reply
     ≡ flag_lines beginning (flags_in written.portions) ++ number_line 0 (codes "end") count
 
--- the reply to a question is its answer, then the alarms of all watches: what their audits flag of
--- the question's entry in any longer history
+-- the reply to a question is its answer, then the alarms of all watches. These are what the
+-- watches' audits flag of the question's entry in any longer history.
 abbrev pub AlarmsAreFlags : Type 0
 AlarmsAreFlags =
     (history : History) (world : World) (command : Command) (effect : Effect) (deed : Deed)
@@ -54,8 +54,8 @@ AlarmsAreFlags =
     (map (option_and_then (λ audit. flag_of meaning (history ++ (effect.added ++ later)) audit
     (next_entry history world (question_act question)))) world.watches)
 
--- after the line that sets a watch, and until the watch is ended, its alarms are what one
--- DURING flags, at any later time, of the questions that were answered
+-- the alarms of a watch are what one DURING flags, at any later time, of the questions that were
+-- answered. This holds after the line that sets the watch, until it is ended.
 abbrev pub StandingAudits : Type 0
 StandingAudits =
     (history : History) (world : World) (line : LineText) (effect : Effect) (lines : List LineText)

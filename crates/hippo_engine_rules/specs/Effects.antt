@@ -79,7 +79,7 @@ alarms_from history entry number watches =
     flat_map (λ (at, held). option_map_or (alarm_line history entry at) held [])
     (enumerate_from number watches)
 
--- the alarms of all watches for an entry, in the order of their numbers
+-- the lines of all watches' alarms for an entry, in the order of the watches' numbers
 abbrev pub alarms : History → World → Entry → Txt
 alarms history world entry = alarms_from history entry 1 world.watches
 

@@ -54,10 +54,10 @@ pub record TallyRises (reply : Txt) (versions steps steps' : ℕ) (old new : Job
   pub unbroken : (new.unbroken ≡ old.unbroken)
       ⊎ ((reply ≡ refusal_line Console Memory) × (new.unbroken ≡ false))
 
--- the tallies after a line over a history with this many versions: the line takes no step; or it
--- takes at most one step for each version, at once; or a job begins at the lowest free number; or
--- the job at the number that the console names is stepped or dropped. All other tallies stay the
--- same
+-- how the tallies of the open jobs change at a line over a history with this many versions. The
+-- line takes no step; or it takes at most one step for each version, at once; or a job begins at
+-- the lowest free number; or the job at the number that the console names is stepped or dropped.
+-- All other tallies stay the same
 pub data Tallies (command : Command) (reply : Txt) (versions steps steps' : ℕ)
     (old new : List (Option JobTally)) : Type 0 where
   none_taken : steps' ≡ steps → new ≡ old → Tallies command reply versions steps steps' old new

@@ -26,7 +26,7 @@ audits_in lines = sum_by (λ line. audits_of (command_of line)) lines
 abbrev pub replies : List Effect → Txt
 replies effects = flat_map (λ effect. effect.reply) effects
 
--- the history after the effects, and below, the world after them
+-- the history after the effects, and the world after them
 abbrev pub history_after : History → List Effect → History
 history_after history effects = history ++ flat_map (λ effect. effect.added) effects
 

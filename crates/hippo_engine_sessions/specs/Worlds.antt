@@ -13,7 +13,9 @@ use Rattle.hippo_values.specs.Limits.{session_limit, cursor_limit, job_limit, wa
 use Rattle.hippo_engine_sessions.specs.declared.cursors.Cursor.{Cursor}
 use Rattle.hippo_engine_sessions.specs.declared.sessions.Session.{Session}
 
--- sessions, jobs and watches are listed by their numbers, from number 1 on
+-- what a run holds beside the history: the clock, the limit of entries, the format of flags,
+-- sessions, audit jobs and watches. Sessions, jobs and watches are listed by their numbers, from
+-- number 1 on.
 pub record World : Type 0 where
   pub clock : Moment
   -- the greatest number of entries that the history may have

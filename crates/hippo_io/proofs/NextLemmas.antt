@@ -1,12 +1,14 @@
 -- The effect of a call for the next line, by what it found.
-use Rattle.std.proofs.Common.{◌≡◌, ℕ, ◌+◌, ◌-◌, ◌<◌, ◌≤◌, ◌↔◌, List, [], ◌++◌, ◌∷◌, Some, None, length, take, drop, sym, ap, ◌∙◌, subst, arith, length-drop, length-take, Ok, true, MatchOption, IfSome}
+use Rattle.std.proofs.Common.{◌≡◌, ℕ, ◌+◌, ◌-◌, ◌<◌, ◌≤◌, ◌↔◌, List, [], ◌++◌, ◌∷◌, Some, None, length, take, drop, sym, ap, ◌∙◌, subst, arith, length-drop, length-take, Ok, true, MatchOption, IfSome, Result, Err}
+use Rattle.std.proofs.lemmas.Bool.{false≢true}
 use Rattle.std.specs.Prelude.{Option, slice_range}
 use Rattle.hippo_io.specs.Lines.{LineText, line_of, lines}
 use Rattle.hippo_io.specs.LineTexts.{line_text}
 use Rattle.hippo_io.specs.Position.{Position}
 use Rattle.hippo_io.specs.HandingOut.{input_limit, bytes_handed_out, HasHandedOut, NextLine}
-use Rattle.hippo_io.specs.Moves.{IsGoing, FindsWhole, FindsRest}
+use Rattle.hippo_io.specs.Moves.{IsGoing, GivesUp, FindsWhole, FindsRest}
 use Rattle.hippo_io.specs.declared.lines.Line.{Line}
+use Rattle.hippo_io.specs.declared.lines.LineFault.{LineFault}
 use Rattle.hippo_io.specs.declared.lines.LineFault.TheVariants.{TooMuch}
 use Rattle.hippo_io.specs.Window.{position_of, IsWindow}
 use Rattle.hippo_io.specs.declared.lines.LineReader.TheInside.{Inside}
@@ -37,6 +39,22 @@ found before after left_before left_after line text going unfailed_after limit i
   too_much = (λ e. cc, λ over. absurd (within_limit after unfailed_after limit over));
   progress = let P : Option LineText → Type 0 = λ o. IfSome o (λ t. bytes_handed_out before < bytes_handed_out after) in subst P (sym is) later;
 }
+
+-- no line was found, since a read failed or there was too much
+pub NextLine-failed : (before after : Position) (left_before left_after : Option (List ℕ)) (result : Result Line LineFault) (fault : LineFault) → IsGoing before → result ≡ Err fault
+    → after.failure ≡ Some fault → HasLimit after → GivesUp before after left_before left_after → NextLine before after left_before left_after result
+NextLine-failed before after left_before left_after (Ok line) fault going is failure limit up = absurd cc
+NextLine-failed before after left_before left_after (Err other) fault going is failure limit up =
+    let same : other ≡ fault = cc in
+    record {
+      line = tt;
+      gives_up = up;
+      failure = failure ∙ ap Some (sym same);
+      again = λ f e. let unfailed = going.unfailed in absurd (let no : Some f ≡ None = sym e ∙ unfailed in cc);
+      over = λ e ended. absurd (false≢true (sym going.unended ∙ ended));
+      too_much = (λ e. limit.0 (failure ∙ ap Some cc), λ over. let there = limit.1 over in cc);
+      progress = tt;
+    }
 
 module _ (fields : Inside) (window : IsWindow fields) (before mid : Position) (left_before left_after : Option (List ℕ)) (is_mid : position_of fields ≡ mid) (going : IsGoing before) (line : Line) where
   -- a whole line waits, and is skipped with its line feed

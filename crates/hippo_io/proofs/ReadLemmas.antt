@@ -1,6 +1,6 @@
 -- A read into a part of a buffer.
 use Rattle.std.proofs.Common.{◌≡◌, ℕ, ◌+◌, ◌-◌, ◌≤◌, List, [], ◌++◌, length, take, drop, ap, ◌∙◌, sym, arith, Result, Ok, Err, IfOk}
-use Rattle.std.proofs.Math.Seq.{take-append-add}
+use Rattle.std.proofs.Math.Seq.{take-append-add, take-append_seam}
 use Rattle.std.proofs.lemmas.List.{take-append-le, length-take, length-take-le, drop-drop, take-take}
 use Rattle.std.proofs.lemmas.Slice.{between_is}
 use Rattle.std.specs.Prelude.{Option, slice_range}
@@ -41,3 +41,11 @@ window_front xs from n to inside =
 pub window_none : (xs : List ℕ) (at : ℕ) → slice_range xs at at ≡ []
 window_none xs at =
     let none : at - at ≡ 0 = omega arith in ap (λ m. take m (drop at xs)) none
+
+-- the first k bytes of a buffer that was lent as a slice and came back as another list
+pub take_over : (cap : ℕ) (over new : List ℕ) → length new ≡ cap → take cap (new ++ over) ≡ new
+take_over cap over new size = ap (λ m. take m (new ++ over)) (sym size) ∙ take-append_seam new over
+
+pub refilled_bytes : (cap k : ℕ) (over new : List ℕ) → length new ≡ cap → slice_range (take cap (new ++ over)) 0 k ≡ take k new
+refilled_bytes cap k over new size =
+    let all : k - 0 ≡ k = omega arith in ap (λ xs. slice_range xs 0 k) (take_over cap over new size) ∙ ap (λ m. take m new) all

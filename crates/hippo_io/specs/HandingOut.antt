@@ -1,5 +1,5 @@
 -- The lines that a line reader has returned from an input.
-use Rattle.std.specs.Prelude.{◌≡◌, ℕ, ◌+◌, ◌-◌, ◌^◌, ◌<◌, ◌≤◌, ◌↔◌, min, false, IsTrue, IsFalse, List, [], ◌∷◌, ◌++◌, length, take, drop, Option, Some, None, Result, Ok, Err, IfOk, OnErr, IfSome, MatchOption}
+use Rattle.std.specs.Prelude.{◌≡◌, ℕ, ◌+◌, ◌-◌, ◌^◌, ◌<◌, ◌≤◌, ◌↔◌, min, true, false, IsTrue, IsFalse, List, [], ◌∷◌, ◌++◌, length, take, drop, Option, Some, None, Result, Ok, Err, IfOk, OnErr, IfSome, MatchOption}
 use Rattle.std.specs.Result.{result_err}
 use Rattle.hippo_io.specs.Lines.{LineText, lines, feeds}
 use Rattle.hippo_io.specs.LineTexts.{line_text}
@@ -7,6 +7,7 @@ use Rattle.hippo_io.specs.declared.lines.Line.{Line}
 use Rattle.hippo_io.specs.declared.lines.Line.TheVariants.{End}
 use Rattle.hippo_io.specs.declared.lines.LineFault.{LineFault}
 use Rattle.hippo_io.specs.declared.lines.LineFault.TheVariants.{TooMuch}
+use Rattle.hippo_io.specs.Inputs.{Reads, ForEachInput, ReadsOn}
 use Rattle.hippo_io.specs.Position.{Position}
 
 -- the most bytes that are read
@@ -79,3 +80,14 @@ pub record NextLine (before after : Position) (left_before left_after : Option (
   pub too_much : (result ≡ Err TooMuch) ↔ (input_limit < after.taken)
   pub progress : IfOk result (λ line. MovesPast line (bytes_handed_out before)
       (bytes_handed_out after))
+
+-- The effect of a call for the next line on a reader and its source: it is the next line whatever
+-- the input may be, and the source has ended once the reader has.
+pub record ReadsNextLine (before after : Position) (left : Option (List ℕ)) (reads : Reads)
+    (left' : Option (List ℕ)) (reads' : Reads) (result : Result Line LineFault) : Type 0 where
+  pub next : ForEachInput left reads left' reads'
+      (λ left left'. NextLine before after left left' result)
+  pub on : ReadsOn reads reads'
+  pub going : IsFalse after.ended → after.failure ≡ None → reads'.ended ≡ reads.ended
+  pub over : IsTrue after.ended → after.failure ≡ None → IsFalse before.ended
+      → reads'.ended ≡ true

@@ -1,6 +1,7 @@
 pub mod Adapters
 pub mod Faults
 pub mod HandingOut
+pub mod Inputs
 pub mod LineTexts
 pub mod Lines
 pub mod Moves

@@ -2,6 +2,7 @@
 use Rattle.std.specs.Prelude.{ℕ, ◌+◌, Bool, ◌||◌, List, length, nat_lt, ◌==◌, if◌then◌else◌}
 use Rattle.std.specs.List.{list_any}
 use Rattle.hippo_io.specs.Faults.{next_count}
+use Rattle.hippo_io.specs.Inputs.{Reads}
 
 -- the calls that fail, counted from 1; the number of calls made; the number of faults
 pub record Tally : Type 0 where
@@ -25,9 +26,10 @@ after_call tally = record tally { made = next_count tally.made }
 abbrev pub after_fault : Tally → Tally
 after_fault tally = record tally { faults = next_count tally.faults }
 
--- a source and its remaining bytes
+-- a source: its remaining bytes, and what its reads have returned
 pub record Playback : Type 0 where
   pub left : List ℕ
+  pub reads : Reads
   pub tally : Tally
 
 -- a sink: the bytes written, and the most that it can hold

@@ -10,6 +10,7 @@ mod source;
 mod std_sink;
 mod std_source;
 mod std_stream;
+mod trace;
 
 pub use lines::{Line, LineFault, LineReader};
 pub use memory_sink::MemorySink;
@@ -19,3 +20,4 @@ pub use source::{Failed, Source};
 pub use std_sink::StdSink;
 pub use std_source::StdSource;
 pub use std_stream::StdStream;
+pub use trace::Trace;

@@ -7,6 +7,7 @@ ghost use Rattle.hippo_values.specs.Limits.{line_limit};
 ghost use Rattle.hippo_io.specs.Lines.{line_of, line_feed, carriage_return, feeds};
 ghost use Rattle.hippo_io.specs.LineTexts.{line_text};
 ghost use Rattle.hippo_io.specs.Moves.{BeginsWithLine};
+ghost use Rattle.hippo_io.specs.Inputs.{ForEachInput, ReadsOn};
 ghost use Rattle.hippo_io.specs.Told.{Keeps, IsAtEnd, TakesAfter};
 
 use crate::source::{Failed, Source};
@@ -101,10 +102,17 @@ fn read_after<S: Source>(
     requires room { filled < length buffer.old }
     requires some { 0 < most }
     ensures count { IfOk result (λ n. (n ≤ most) × (filled + n ≤ length buffer.old)) }
-    ensures taken { IfOk result (λ n. TakesAfter (S.left source.old) (S.left source.new) n
-        (take filled buffer.old) (take (filled + n) buffer.new)) }
-    ensures end { IfOk result (λ n. n ≡ 0 → IsAtEnd (S.left source.old)) }
-    ensures failed { OnErr result (Keeps (S.left source.old) (S.left source.new)) }
+    ensures taken { IfOk result (λ n. ForEachInput (S.left source.old) (S.reads source.old)
+        (S.left source.new) (S.reads source.new) (λ left left'. TakesAfter left left' n
+        (take filled buffer.old) (take (filled + n) buffer.new))) }
+    ensures end { IfOk result (λ n. n ≡ 0 → ForEachInput (S.left source.old) (S.reads source.old)
+        (S.left source.new) (S.reads source.new) (λ left left'. IsAtEnd left)) }
+    ensures failed { OnErr result (ForEachInput (S.left source.old) (S.reads source.old)
+        (S.left source.new) (S.reads source.new) (λ left left'. Keeps left left')) }
+    ensures on { ReadsOn (S.reads source.old) (S.reads source.new) }
+    ensures going { IfOk result (λ n. 0 < n
+        → (S.reads source.new).ended ≡ (S.reads source.old).ended) }
+    ensures ended { IfOk result (λ n. n ≡ 0 → (S.reads source.new).ended ≡ true) }
     ensures kept { take filled buffer.new ≡ take filled buffer.old }
     ensures cause { OnErr result (HasRisen (S.faults source.old) (S.faults source.new)) }
     ensures unfailed { OnOk result (S.faults source.new ≡ S.faults source.old) }
@@ -152,8 +160,8 @@ fn text_of(piece: &[u8]) -> Line<'_>
 }
 
 impl LineReader {
-    ghost use Rattle.hippo_io.specs.HandingOut.{at_beginning, NextLine, HasHandedOut, input_limit, bytes_handed_out};
-    ghost use Rattle.hippo_io.specs.Moves.{IsGoing, Refills, FailsToRefill, SkipsLine, GivesUp, FindsNext};
+    ghost use Rattle.hippo_io.specs.HandingOut.{at_beginning, ReadsNextLine, HasHandedOut, input_limit, bytes_handed_out};
+    ghost use Rattle.hippo_io.specs.Moves.{IsGoing, Refills, FailsToRefill, SkipsLine, GivesUp, FindsNext, EndsTogether, FindsEnd, IsShortEnough};
     ghost use Rattle.std.specs.Result.{result_err};
     ghost use Rattle.hippo_io.specs.contracts.lines.LineReader.{the_row};
     ghost use Rattle.hippo_io.specs.declared.lines.LineFault.TheVariants.{Read, TooMuch};
@@ -207,12 +215,19 @@ impl LineReader {
     fn refill<S: Source>(&mut self, source: &mut S) -> Result<usize, LineFault>
         requires going { IsGoing self.old }
         requires room { length self.old.waiting ≤ line_limit }
-        ensures more { IfOk result (Refills self.old self.new (S.left source.old)
-            (S.left source.new)) }
+        ensures more { IfOk result (λ n. ForEachInput (S.left source.old) (S.reads source.old)
+            (S.left source.new) (S.reads source.new)
+            (λ left left'. Refills self.old self.new left left' n)) }
         ensures end { IfOk result (λ n. n ≡ 0 → (self.new ≡ self.old)
-            × IsAtEnd (S.left source.old)) }
-        ensures failed { IfErr result
-            (FailsToRefill self.old self.new (S.left source.old) (S.left source.new)) }
+            × ForEachInput (S.left source.old) (S.reads source.old) (S.left source.new)
+            (S.reads source.new) (λ left left'. IsAtEnd left)) }
+        ensures failed { IfErr result (λ fault. ForEachInput (S.left source.old)
+            (S.reads source.old) (S.left source.new) (S.reads source.new)
+            (λ left left'. FailsToRefill self.old self.new left left' fault)) }
+        ensures on { ReadsOn (S.reads source.old) (S.reads source.new) }
+        ensures going { IfOk result (λ n. 0 < n
+            → (S.reads source.new).ended ≡ (S.reads source.old).ended) }
+        ensures ended { IfOk result (λ n. n ≡ 0 → (S.reads source.new).ended ≡ true) }
         ensures limit { (self.new.failure ≡ Some TooMuch) ↔ (input_limit < self.new.taken) }
         ensures cause { IsErrOf result LineFault.Read
             → HasRisen (S.faults source.old) (S.faults source.new) }
@@ -247,10 +262,15 @@ impl LineReader {
         requires clear { feeds self.old.waiting ≡ 0 }
         requires long { line_limit < length self.old.waiting }
         requires taken { length self.old.waiting ≤ self.old.taken }
-        ensures skipped { OnOk result (SkipsLine self.old self.new (S.left source.old)
-            (S.left source.new)) }
-        ensures gives_up { OnErr result (GivesUp self.old self.new (S.left source.old)
-            (S.left source.new)) }
+        ensures skipped { OnOk result (ForEachInput (S.left source.old) (S.reads source.old)
+            (S.left source.new) (S.reads source.new)
+            (λ left left'. SkipsLine self.old self.new left left')) }
+        ensures gives_up { OnErr result (ForEachInput (S.left source.old) (S.reads source.old)
+            (S.left source.new) (S.reads source.new)
+            (λ left left'. GivesUp self.old self.new left left')) }
+        ensures on { ReadsOn (S.reads source.old) (S.reads source.new) }
+        ensures going { OnOk result (EndsTogether self.new (S.reads source.old)
+            (S.reads source.new)) }
         ensures failure { self.new.failure ≡ result_err result }
         ensures later { OnOk result (bytes_handed_out self.old < bytes_handed_out self.new) }
         ensures limit { (self.new.failure ≡ Some TooMuch) ↔ (input_limit < self.new.taken) }
@@ -275,10 +295,16 @@ impl LineReader {
     // Reads until a whole line waits, the input has ended, or an overlong line was skipped.
     fn find_line<S: Source>(&mut self, source: &mut S) -> Result<Found, LineFault>
         requires going { IsGoing self.old }
-        ensures found { IfOk result (FindsNext self.old self.new (S.left source.old)
-            (S.left source.new)) }
-        ensures gives_up { OnErr result (GivesUp self.old self.new (S.left source.old)
-            (S.left source.new)) }
+        ensures found { IfOk result (λ found. ForEachInput (S.left source.old)
+            (S.reads source.old) (S.left source.new) (S.reads source.new)
+            (λ left left'. FindsNext self.old self.new left left' found)) }
+        ensures short { IfOk result (λ found. IsShortEnough found self.new) }
+        ensures gives_up { OnErr result (ForEachInput (S.left source.old) (S.reads source.old)
+            (S.left source.new) (S.reads source.new)
+            (λ left left'. GivesUp self.old self.new left left')) }
+        ensures on { ReadsOn (S.reads source.old) (S.reads source.new) }
+        ensures going { IfOk result (λ found. FindsEnd found self.new (S.reads source.old)
+            (S.reads source.new)) }
         ensures failure { self.new.failure ≡ result_err result }
         ensures limit { (self.new.failure ≡ Some TooMuch) ↔ (input_limit < self.new.taken) }
         ensures cause { IsErrOf result LineFault.Read
@@ -312,7 +338,8 @@ impl LineReader {
     /// unless the result is `Read`.
     pub fn next_line<S: Source>(&mut self, source: &mut S) -> Result<Line<'_>, LineFault>
         ensures* next { sem 𝓛 (Rests the_row self.entry (λ new.
-            NextLine self.old new (S.left source.old) (S.left source.new) result)) }
+            ReadsNextLine self.old new (S.left source.old) (S.reads source.old)
+            (S.left source.new) (S.reads source.new) result)) }
         ensures cause { IsErrOf result LineFault.Read →
             (self.old.failure ≡ Some LineFault.Read)
             ⊎ HasRisen (S.faults source.old) (S.faults source.new) }

@@ -1,11 +1,12 @@
 //! A source in memory that exposes the bytes that are left, and fails at chosen calls.
 ghost use Rattle.std.specs.Prelude.{◌≡◌, ◌<◌, ◌≤◌, Some, length, min, take, IfOk, OnOk, OnErr, is_err};
 ghost use Rattle.hippo_io.specs.Faults.{HasRisen};
+ghost use Rattle.hippo_io.specs.Inputs.{after_read, unread};
 ghost use Rattle.hippo_io.specs.Playback.{new_tally, fails_next, tally_after};
 ghost use Rattle.hippo_io.specs.Told.{Keeps, Takes, IsAtEnd};
 
 use crate::counts::CallCounter;
-use crate::source::{Failed, Source};
+use crate::source::{Failed, Source, has_ended};
 use hippo_values::{Bytes, Calls};
 use std::marker::Model;
 
@@ -14,16 +15,21 @@ use std::marker::Model;
 pub struct MemorySource {
     bytes: Bytes,
     place: usize,
+    ended: bool,
     counter: CallCounter,
 }
 
 impl Model for MemorySource {
-    ghost use Rattle.std.specs.Prelude.{◌≤◌, length, drop};
+    ghost use Rattle.std.specs.Prelude.{◌≤◌, length, take, drop};
     ghost use Rattle.hippo_io.specs.Playback.{Playback};
 
     ghost Value = { Playback };
 
-    ghost view = { λ a. record { left = drop a.place a.bytes; tally = a.counter } };
+    ghost view = { λ a. record {
+      left = drop a.place a.bytes;
+      reads = record { bytes = take a.place a.bytes; ended = a.ended };
+      tally = a.counter;
+    } };
 
     ghost invariant = { λ a. a.place ≤ length a.bytes };
 }
@@ -33,11 +39,13 @@ impl MemorySource {
     /// fail.
     pub fn new(bytes: Bytes, failing: Calls) -> MemorySource
         ensures left { result.left ≡ bytes }
+        ensures reads { result.reads ≡ unread }
         ensures tally { result.tally ≡ new_tally failing }
     {
         MemorySource {
             bytes,
             place: 0,
+            ended: false,
             counter: CallCounter::new(failing),
         }
     }
@@ -56,6 +64,8 @@ fn copy_front(from: &[u8], to: &mut [u8]) -> usize
 impl Source for MemorySource {
     ghost left = { λ source. Some source.left };
 
+    ghost reads = { λ source. source.reads };
+
     ghost faults = { λ source. source.tally.faults };
 
     fn read(&mut self, buffer: &mut [u8]) -> Result<usize, Failed>
@@ -65,6 +75,8 @@ impl Source for MemorySource {
         ensures end { IfOk result (λ n. n ≡ 0 → 0 < length buffer.old
             → IsAtEnd (Some self.old.left)) }
         ensures failed { OnErr result (Keeps (Some self.old.left) (Some self.new.left)) }
+        ensures returned { IfOk result (λ n. self.new.reads ≡ after_read self.old.reads n buffer.new) }
+        ensures unread { OnErr result (self.new.reads ≡ self.old.reads) }
         ensures cause { OnErr result (HasRisen self.old.tally.faults self.new.tally.faults) }
         ensures unfailed { OnOk result (self.new.tally.faults ≡ self.old.tally.faults) }
         ensures faults { self.old.tally.faults ≤ self.new.tally.faults }
@@ -78,6 +90,7 @@ impl Source for MemorySource {
         let left = &self.bytes.as_slice()[self.place..];
         let n = copy_front(left, buffer);
         self.place += n;
+        self.ended = has_ended(self.ended, n, buffer);
         Ok(n)
     }
 }

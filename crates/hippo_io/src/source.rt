@@ -1,6 +1,7 @@
 //! Where bytes are read.
-ghost use Rattle.std.specs.Prelude.{◌≡◌, ℕ, ◌<◌, ◌≤◌, List, Option, length, IfOk, OnOk, OnErr};
+ghost use Rattle.std.specs.Prelude.{◌≡◌, ℕ, ◌<◌, ◌≤◌, ◌&&◌, ◌||◌, ◌==◌, nat_lt, List, Option, length, IfOk, OnOk, OnErr};
 ghost use Rattle.hippo_io.specs.Faults.{HasRisen};
+ghost use Rattle.hippo_io.specs.Inputs.{Reads, after_read};
 ghost use Rattle.hippo_io.specs.Told.{Keeps, Takes, IsAtEnd};
 
 /// A read or a write failed.
@@ -11,6 +12,9 @@ pub struct Failed;
 pub trait Source {
     // The bytes still to come, if they are known to the proof.
     ghost left: { Self → Option (List ℕ) };
+
+    // What its reads have returned so far. This is always known.
+    ghost reads: { Self → Reads };
 
     // How often a read failed; the count saturates at its largest value.
     ghost faults: { Self → ℕ };
@@ -23,7 +27,16 @@ pub trait Source {
         ensures taken { IfOk result (λ n. Takes (left self.old) (left self.new) n buffer.new) }
         ensures end { IfOk result (λ n. n ≡ 0 → 0 < length buffer.old → IsAtEnd (left self.old)) }
         ensures failed { OnErr result (Keeps (left self.old) (left self.new)) }
+        ensures returned { IfOk result (λ n. reads self.new ≡ after_read (reads self.old) n buffer.new) }
+        ensures unread { OnErr result (reads self.new ≡ reads self.old) }
         ensures cause { OnErr result (HasRisen (faults self.old) (faults self.new)) }
         ensures unfailed { OnOk result (faults self.new ≡ faults self.old) }
         ensures faults { faults self.old ≤ faults self.new };
+}
+
+// Whether a source has ended once a read has returned `n` bytes in a buffer.
+pub(crate) fn has_ended(ended: bool, n: usize, buffer: &[u8]) -> bool
+    ensures { result ≡ (ended || (n == 0 && nat_lt 0 (length buffer.now))) }
+{
+    ended || n == 0 && !buffer.is_empty()
 }

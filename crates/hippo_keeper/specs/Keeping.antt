@@ -64,9 +64,9 @@ pub record CountsFaults {A : Type 0} (result : Result A KeeperFault) (before aft
   pub unfailed : has_failed result ≡ false → after ≡ before
   pub rises : before ≤ after
 
--- after a call, whatever it answers: the keeper's invariant holds; it is started and closed as
--- given; it is spent exactly when the call failed; and its contents are known only if they were
--- known before
+-- what holds after a call on a keeper, whatever it answers. The keeper's invariant holds; it is
+-- started and closed as given; it is spent exactly when the call failed; and its contents are known
+-- only if they were known before.
 pub record IsAfterCall {A : Type 0} (is_started is_closed : Bool) (result : Result A KeeperFault)
     (before after : KeeperState) : Type 0 where
   pub is_sound : after.sound
@@ -93,8 +93,8 @@ pub record HasOneMore (entry : StoredEntry) (before after : KeeperState) : Type 
   pub longer : after.kept ≡ before.kept ++ entry ∷ []
   pub stop : OnlySurvives after
 
--- either the old list is stored or the longer one; only the longer list and lists that survived a
--- stop before may survive one now, and at least one list does
+-- either the old list is stored or the longer one. Only the longer list and lists that survived a
+-- stop before may survive one now, and at least one list does.
 pub record MayHaveOneMore (entry : StoredEntry) (before after : KeeperState) : Type 0 where
   pub either : (after.kept ≡ before.kept) ⊎ (after.kept ≡ before.kept ++ entry ∷ [])
   pub stop : (store : Store) → after.survives store → before.survives store

@@ -37,8 +37,8 @@ pub record KeepsFound (finds : Survivors) (keeper : KeeperState) : Type 0 where
   pub alone : (store : Store) → keeper.survives store → store ≡ keeper.kept
   pub survives_stop : ∥ keeper.survives keeper.kept ∥₁
 
--- a state stands for a valid history, and one step was taken for each version in it; if the store's
--- contents are known, this is the only history with the stored forms
+-- a state stands for a valid history, and one step was taken for each version in it. If the store's
+-- contents are known, this is the only history with the stored forms.
 pub record IsLoaded (state : State) (keeper : KeeperState) (steps_before steps_after : ℕ)
     : Type 0 where
   pub history : History

@@ -19,8 +19,8 @@ use Rattle.hippo_replay.specs.declared.state.State.{State}
 abbrev pub latest_moment : History → Moment
 latest_moment history = unwrap_or (last_word (λ entry. Some entry.moment) history) first_moment
 
--- the history is valid, and the state holds its contents: its names, its rules, its rows, the
--- number of its entries, and the moment of the last one
+-- the history is valid, and the state holds its contents: names, rules, rows, the number of
+-- entries, and the moment of the last one
 pub record Represents (state : State) (history : History) : Type 0 where
   pub valid : is_valid meaning history ≡ true
   pub names : state.catalog.names ≡ known_at history

@@ -1,6 +1,7 @@
 //! The top function: it does what the words ask for, over a keeper, and returns the exit status.
 ghost use Rattle.std.specs.Prelude.{◌≡◌, ◌≢◌, ◌⊎◌, ℕ, List, Some, None, true, false, Any};
 ghost use Rattle.hippo_io.specs.Faults.{HasRisen};
+ghost use Rattle.hippo_io.specs.Inputs.{ForEachInput};
 ghost use Rattle.hippo_io.specs.Told.{Appends, AppendsFront};
 ghost use Rattle.hippo_keeper.specs.Keeping.{IsReady};
 ghost use Rattle.hippo_program_args.specs.Starting.{IsIdle, SaysDamaged};
@@ -83,16 +84,18 @@ pub fn hippo_top<S: Source, K: Sink, P: Keeper, L: Ledger>(
     // from what a start may find. When the input and the output are known too, this includes which
     // lines were read and what is written.
     ensures served { (job : Job) (setting : Setting) → AskToServe words.now job setting →
-        (P.state keeper.new).tells → EndsAs (λ ending. RunEnds ending
+        (P.state keeper.new).tells → ForEachInput (S.left source.old) (S.reads source.old)
+        (S.left source.new) (S.reads source.new) (λ left left'. EndsAs (λ ending. RunEnds ending
         (source.new ≡ source.old) (sink.new ≡ sink.old) setting job (store_of words.now)
-        (outside (S.left source.old) (K.written sink.old) (P.state keeper.old) steps.old)
-        (outside (S.left source.new) (K.written sink.new) (P.state keeper.new) steps.new)) result }
+        (outside left (K.written sink.old) (P.state keeper.old) steps.old)
+        (outside left' (K.written sink.new) (P.state keeper.new) steps.new)) result) }
 
     // When the input is known: a run or a load that ends with 0 has taken all of it, and it ends
     // with 8 exactly when it has taken more bytes than the limit. This holds for any keeper.
     ensures taken { (job : Job) (setting : Setting) → AskToServe words.now job setting
-        → (input : List ℕ) →
-        S.left source.old ≡ Some input → HasTakenBytes result input (S.left source.new) }
+        → ForEachInput (S.left source.old) (S.reads source.old) (S.left source.new)
+        (S.reads source.new) (λ left left'. (input : List ℕ) →
+        left ≡ Some input → HasTakenBytes result input left') }
 
     // A check reads nothing, and stores what it finds unchanged.
     ensures counted { job_of words.now ≡ Some Check → (P.state keeper.new).tells →

@@ -55,7 +55,7 @@ pub record IsCounted (history : History) (before : Told) (after : Outside) : Typ
   pub loaded : WasLoaded history before after
   pub written : Appends before.written after.told.written (entries_line (length history))
 
--- a prefix of the line with that number is written
+-- a prefix of the line with the number of the history's entries is written
 pub record BeginsCount (history : History) (before : Told) (after : Outside) : Type 0 where
   pub loaded : WasLoaded history before after
   pub written : AppendsFront before.written after.told.written (entries_line (length history))

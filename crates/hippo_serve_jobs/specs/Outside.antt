@@ -10,7 +10,7 @@ pub record Told : Type 0 where
   pub written : Option Txt
   pub steps : ℕ
 
--- the same, with the keeper
+-- everything outside the program: what `Told` has, and the keeper
 pub record Outside : Type 1 where
   pub told : Told
   pub keeper : KeeperState

@@ -37,15 +37,15 @@ opening_after setting history = opening (latest_moment history) setting.limit se
 abbrev pub ForInput : Told → (Txt → Type 0) → Type 0
 ForInput before holds = (input : Txt) → before.left ≡ Some input → holds input
 
--- loading read what is stored once, and each audit that was asked for read it at most once; each
--- version that is read is one step
+-- at most one step was taken for each version by loading, and one for each version by each audit
+-- that was asked for. Each version that is read is one step.
 abbrev pub StepsWithin : History → List LineText → List Effect → Told → Outside → Type 0
 StepsWithin history asked effects before after =
     after.told.steps ≤ before.steps + versions (history_after history effects)
     * (1 + audits_in asked)
 
--- this many bytes of the input were taken, and the rest remains; status 0 means all bytes, and the
--- status is 8 exactly when more bytes were taken than the limit
+-- this many bytes of the input were taken, and the rest remains. Status 0 means all bytes. The
+-- status is 8 exactly when more bytes were taken than the limit.
 pub record HasTakenBytes (status : ℕ) (input : Txt) (left : Option Txt) : Type 0 where
   pub taken : ℕ
   pub within : taken ≤ length input
@@ -104,12 +104,13 @@ pub record IsCutOff (amount : ℕ → Type 0) (setting : Setting) (job : Job) (h
   pub read : ForInput before (λ input. HasReadWhole amount replied input after.told.left)
   pub written : Appends before.written after.told.written (replies effects)
 
--- the source failed within the limit
+-- exactly the lines that were read whole have their replies; the source failed within the limit
 abbrev pub IsReadCut : Setting → Job → History → Told → Outside → Type 0
 IsReadCut setting job history before after =
     IsCutOff (λ taken. taken ≤ input_limit) setting job history before after
 
--- more bytes were taken than the limit
+-- exactly the lines that were read whole within the limit have their replies; more bytes were taken
+-- than the limit
 abbrev pub HasTooMuch : Setting → Job → History → Told → Outside → Type 0
 HasTooMuch setting job history before after =
     IsCutOff (λ taken. input_limit < taken) setting job history before after
@@ -124,9 +125,9 @@ pub record HasReadFront (first : List LineText) (input : Txt) (left : Option Txt
   pub others : left ≡ Some (drop taken input)
   pub limit : taken ≤ input_limit
 
--- all lines but the last have their replies; a prefix of the last reply is written, and the last
--- line has had its effect all the same; in a load the last line may be the one that sets the clock,
--- if no other line was read
+-- all lines but the last have their replies, a prefix of the last reply is written, and the last
+-- line has had its effect. In a load the last line may be the one that sets the clock, if no other
+-- line was read.
 pub record IsUnwritten (setting : Setting) (job : Job) (history : History) (before : Told)
     (after : Outside)
     : Type 0 where
@@ -166,8 +167,8 @@ KeepsBroken setting history effects line keeper =
     let added : History = added_next setting history effects line in
     KeepsOrAdds here added keeper ⊎ KeepsRead here added line keeper
 
--- the lines have their replies, and nothing of the next line's reply is written; the history after
--- them is stored, either as it was or with the one entry that the rules add for the next line
+-- the lines have their replies, and nothing of the next line's reply is written. The history after
+-- them is stored, either as it was or with the one entry that the rules add for the next line.
 pub record IsBrokenOff (setting : Setting) (job : Job) (history : History) (before : Told)
     (after : Outside)
     : Type 0 where

@@ -1,6 +1,7 @@
 //! A run over a keeper, and a check of what it stores. Both load the stored history first.
 ghost use Rattle.std.specs.Prelude.{◌≡◌, ◌≢◌, ℕ, List, Option, Some, false};
 ghost use Rattle.hippo_io.specs.Faults.{HasRisen};
+ghost use Rattle.hippo_io.specs.Inputs.{ForEachInput};
 ghost use Rattle.hippo_keeper.specs.Keeping.{IsReady, IsAfterCall};
 ghost use Rattle.hippo_program_args.specs.Starting.{IsIdle};
 ghost use Rattle.hippo_program_args.specs.declared.endings.Ending.TheVariants.{Refused, ReadFault, WriteFault, Damaged, NoMemory, TooMuch};
@@ -47,15 +48,17 @@ pub fn run<S: Source, K: Sink, P: Keeper, L: Ledger>(
     ensures call { IsAfterCall (P.state keeper.new).started (P.state keeper.new).closed
         (ending_as_call result)
         (P.state keeper.old) (P.state keeper.new) }
-    ensures ends { (P.state keeper.new).tells →
+    ensures ends { (P.state keeper.new).tells → ForEachInput (S.left source.old)
+        (S.reads source.old) (S.left source.new) (S.reads source.new) (λ left left'.
         RunEnds result (source.new ≡ source.old) (sink.new ≡ sink.old) setting job.now store.now
-        (outside (S.left source.old) (K.written sink.old) (P.state keeper.old) steps.old)
-        (outside (S.left source.new) (K.written sink.new) (P.state keeper.new) steps.new) }
+        (outside left (K.written sink.old) (P.state keeper.old) steps.old)
+        (outside left' (K.written sink.new) (P.state keeper.new) steps.new)) }
     ensures damaged { result ≡ Damaged → (P.state keeper.new).tells → source.new ≡ source.old }
     ensures unread { result ≡ NoMemory → source.new ≡ source.old }
     ensures unwritten { result ≡ NoMemory → sink.new ≡ sink.old }
-    ensures read { (input : List ℕ) → S.left source.old ≡ Some input →
-        HasTakenBytes (status_of result) input (S.left source.new) }
+    ensures read { ForEachInput (S.left source.old) (S.reads source.old) (S.left source.new)
+        (S.reads source.new) (λ left left'. (input : List ℕ) → left ≡ Some input →
+        HasTakenBytes (status_of result) input left') }
     ensures read_fault { result ≡ ReadFault → HasRisen (S.faults source.old) (S.faults source.new) }
     ensures write_fault { result ≡ WriteFault → HasRisen (K.faults sink.old) (K.faults sink.new) }
     ensures unfailed_read { result ≢ ReadFault → S.faults source.new ≡ S.faults source.old }

@@ -1,7 +1,8 @@
 //! Serves the lines of the input, one after another, each with its reply.
-ghost use Rattle.std.specs.Prelude.{◌≡◌, ◌≢◌, ℕ, ◌+◌, ◌<◌, ◌≤◌, List, [], Some, None, option_map, IfNone, IfOk, MatchOption, true, false};
+ghost use Rattle.std.specs.Prelude.{◌≡◌, ◌≢◌, ℕ, ◌+◌, ◌<◌, ◌≤◌, List, [], Some, None, option_map, IfNone, IfOk, IsTrue, IsFalse, MatchOption, true, false};
 ghost use Rattle.hippo_io.specs.Faults.{HasRisen};
 ghost use Rattle.hippo_io.specs.HandingOut.{at_beginning, bytes_handed_out, input_limit, HasHandedOut};
+ghost use Rattle.hippo_io.specs.Inputs.{ForEachInput, ForEachReading, ReadsOn};
 ghost use Rattle.hippo_io.specs.LineTexts.{line_text};
 ghost use Rattle.hippo_model.specs.Terms.{History};
 ghost use Rattle.hippo_model.specs.Versions.{versions};
@@ -199,18 +200,26 @@ impl Serving {
         ensures at_work { IfNone result (AtWork self.new.engine (P.state keeper.new)) }
         ensures call { IsAfterCall true false (part_as_call result) (P.state keeper.old)
             (P.state keeper.new) }
-        ensures read { (input : List ℕ) → IsHandingOut input self.old.reader (S.left source.old) →
-            MatchOption result (IsHandingOut input self.new.reader (S.left source.new))
-            (λ ending. HasTakenBytes (status_of ending) input (S.left source.new)) }
-        ensures served { (P.state keeper.new).tells
-            → (setting : Setting) (history : History) (before : Told) →
+        ensures read { ForEachReading self.old.reader.ended (S.left source.old)
+            (S.reads source.old) (S.left source.new) (S.reads source.new)
+            (λ left left'. (input : List ℕ) → IsHandingOut input self.old.reader left →
+            MatchOption result (IsHandingOut input self.new.reader left')
+            (λ ending. HasTakenBytes (status_of ending) input left')) }
+        ensures served { (P.state keeper.new).tells → ForEachReading self.old.reader.ended
+            (S.left source.old) (S.reads source.old) (S.left source.new) (S.reads source.new)
+            (λ left left'. (setting : Setting) (history : History) (before : Told) →
             HasServed setting job.now history before self.old.reader self.old.engine
-            (outside (S.left source.old) (K.written sink.old) (P.state keeper.old) steps.old) →
+            (outside left (K.written sink.old) (P.state keeper.old) steps.old) →
             MatchOption result
             (HasServed setting job.now history before self.new.reader self.new.engine
-            (outside (S.left source.new) (K.written sink.new) (P.state keeper.new) steps.new))
+            (outside left' (K.written sink.new) (P.state keeper.new) steps.new))
             (λ ending. LinesEnd ending setting job.now history before
-            (outside (S.left source.new) (K.written sink.new) (P.state keeper.new) steps.new)) }
+            (outside left' (K.written sink.new) (P.state keeper.new) steps.new))) }
+        ensures on { ReadsOn (S.reads source.old) (S.reads source.new) }
+        ensures still { IsTrue self.old.reader.ended
+            → S.reads source.new ≡ S.reads source.old }
+        ensures going { IfNone result (IsFalse self.new.reader.ended
+            → (S.reads source.new).ended ≡ (S.reads source.old).ended) }
         ensures read_fault { result ≡ Some ReadFault
             → HasRisen (S.faults source.old) (S.faults source.new) }
         ensures write_fault { result ≡ Some WriteFault
@@ -249,16 +258,19 @@ impl Serving {
         ensures status { (result ≢ Refused) × (result ≢ NoMemory) }
         ensures call { IsAfterCall true false (ending_as_call result) (P.state keeper.old)
             (P.state keeper.new) }
-        ensures read { (input : List ℕ) → S.left source.old ≡ Some input →
-            HasTakenBytes (status_of result) input (S.left source.new) }
-        ensures ends { (P.state keeper.new).tells → (setting : Setting) (history : History) →
+        ensures read { ForEachInput (S.left source.old) (S.reads source.old) (S.left source.new)
+            (S.reads source.new) (λ left left'. (input : List ℕ) → left ≡ Some input →
+            HasTakenBytes (status_of result) input left') }
+        ensures ends { (P.state keeper.new).tells → ForEachInput (S.left source.old)
+            (S.reads source.old) (S.left source.new) (S.reads source.new)
+            (λ left left'. (setting : Setting) (history : History) →
             Holds history self.old.engine (P.state keeper.old) →
             world_of self.old.engine.world ≡ opening_after setting history
             → KeepsHistory history (P.state keeper.old) →
             (start : ℕ) → steps.old ≡ start + versions history →
             LinesEnd result setting job.now history
-            (telling (S.left source.old) (K.written sink.old) start)
-            (outside (S.left source.new) (K.written sink.new) (P.state keeper.new) steps.new) }
+            (telling left (K.written sink.old) start)
+            (outside left' (K.written sink.new) (P.state keeper.new) steps.new)) }
         ensures read_fault { result ≡ ReadFault
             → HasRisen (S.faults source.old) (S.faults source.new) }
         ensures write_fault { result ≡ WriteFault

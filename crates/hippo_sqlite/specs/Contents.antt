@@ -88,8 +88,8 @@ pub record GoesOn {A : Type 0} (result : Result A KeeperFault) (old new : Conten
   pub told : new.tells → old.tells
   pub rests : has_failed result ≡ false → new.rests
 
--- an append adds one entry after those that are stored; if it fails, the entry may or may not
--- survive a stop; if it runs out of memory, it does nothing
+-- an append adds one entry after those that are stored. If it fails, the entry may or may not
+-- survive a stop; if it runs out of memory, it does nothing.
 pub record AppendsTo {A : Type 0} (entry : StoredEntry) (result : Result A KeeperFault)
     (old new : Contents) : Type 0 where
   pub on : GoesOn result old new

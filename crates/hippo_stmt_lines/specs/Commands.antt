@@ -25,6 +25,7 @@ use Rattle.hippo_report.specs.declared.speaker.Speaker.TheVariants.{Nobody}
 use Rattle.hippo_report.specs.Speakers.{speaker_at, is_somebody}
 use Rattle.hippo_stmt_lines.specs.Moments.{moment_in}
 
+-- what a line commands, whatever the history
 pub data Command : Type 0 where
   -- an empty line, or a comment
   nothing : Command

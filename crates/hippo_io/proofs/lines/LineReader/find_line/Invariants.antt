@@ -4,13 +4,16 @@ use Rattle.std.specs.Prelude.{Option}
 use Rattle.hippo_values.specs.Limits.{line_limit}
 use Rattle.hippo_io.specs.Lines.{feeds}
 use Rattle.hippo_io.specs.Position.{Position}
+use Rattle.hippo_io.specs.Inputs.{Reads, ForEachInput, ReadsOn}
 use Rattle.hippo_io.specs.HandingOut.{bytes_handed_out}
 use Rattle.hippo_io.specs.Moves.{IsGoing, KeepsHandedOut}
 use Rattle.hippo_io.proofs.lines.LineReader.find_line.Given as goal
 
-pub record IsSearching (before reader : Position) (left_before left : Option (List ℕ)) (faults_before faults_now searched : ℕ) : Type 0 where
+pub record IsSearching (before reader : Position) (left_before : Option (List ℕ)) (reads_before : Reads) (left : Option (List ℕ)) (reads : Reads) (faults_before faults_now searched : ℕ) : Type 0 where
   pub going : IsGoing reader
-  pub kept : KeepsHandedOut before reader left_before left
+  pub kept : ForEachInput left_before reads_before left reads (λ l l'. KeepsHandedOut before reader l l')
+  pub on : ReadsOn reads_before reads
+  pub ended : reads.ended ≡ reads_before.ended
   pub same : bytes_handed_out reader ≡ bytes_handed_out before
   pub within : searched ≤ length reader.waiting
   pub clear : feeds (take searched reader.waiting) ≡ 0
@@ -19,8 +22,9 @@ pub record IsSearching (before reader : Position) (left_before left : Option (Li
 abbrev pub invariant-loop-length : goal.invariant-loop-length
 invariant-loop-length g l =
     let left = g.S.Source.left in
+    let reads = g.S.Source.reads in
     let faults = g.S.Source.faults in
-    IsSearching l.fn.self l.self (left l.fn.source) (left l.source) (faults l.fn.source) (faults l.source) l.searched
+    IsSearching l.fn.self l.self (left l.fn.source) (reads l.fn.source) (left l.source) (reads l.source) (faults l.fn.source) (faults l.source) l.searched
 
 abbrev pub decreases-loop-length : goal.decreases-loop-length
 decreases-loop-length g l = line_limit + 1 - length l.self.waiting
