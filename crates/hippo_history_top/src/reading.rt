@@ -2,7 +2,7 @@
 ghost use Rattle.std.specs.Prelude.{◌≡◌, ◌||◌, codes, map, is_some, IfOk};
 ghost use Rattle.clap.specs.Words.{first_of, rows_of, found_of};
 ghost use Rattle.hippo_program_args.specs.Arguments.{FindsMatches};
-ghost use Rattle.hippo_history_top.specs.CommandLine.{showing_command_line, first_in, last_in, has_end, entry_fits, has_form, rules_fit, has_selection, digest_fits, options_fit, scope_of, is_text_format, format_fits, shown_form, acts_in, excerpt_in, page_in, view_in, call_with, call_in_format, showing_call, asked_of};
+ghost use Rattle.hippo_history_top.specs.CommandLine.{showing_command_line, is_on, first_in, last_in, has_end, entry_fits, has_form, rules_fit, has_selection, digest_fits, options_fit, scope_of, is_text_format, format_fits, shown_form, acts_in, excerpt_in, page_in, view_in, call_with, call_in_format, showing_call, asked_of};
 
 use crate::arguments::{ARGUMENTS, is_on};
 use crate::asking::{Acts, Call, Excerpt, Form, Page, Scope, View};
