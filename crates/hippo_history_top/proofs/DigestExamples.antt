@@ -1,5 +1,5 @@
 -- Digests computed by evaluation. The example's name says what it shows.
-use Rattle.std.proofs.Common.{◌≡◌, List, [], ◌∷◌, refl, codes}
+use Rattle.std.proofs.Common.{◌≡◌, [], ◌∷◌, refl, codes}
 use Rattle.sha2.specs.Sha256.{sha256, first_words, schedule, rounds, compress, hash_after, digest_bytes}
 use Rattle.hex.specs.Hex.{encode_with, encode_lower}
 use Rattle.hippo_model.specs.declared.entry.Act.TheVariants.{Purpose, Recipient}
