@@ -1,5 +1,5 @@
 //! The program. `hippo_history` shows on standard output what a SQLite store holds, as its words
-//! ask: the entries, one by one, or the rules in force.
+//! ask: the entries, one by one, the rules in force, or a digest of the entries.
 #![tactic(auto)]
 
 ghost use Rattle.hippo_history_top.specs.CommandLine.{asked_of};

@@ -8,5 +8,7 @@ mod LoopLemmas
 mod NameLemmas
 mod PolicyLemmas
 mod PageLemmas
+mod DigestLemmas
 mod QuestionLemmas
+mod DigestExamples
 mod CommandLineExamples

@@ -1,17 +1,19 @@
 -- The results of showing what is asked for, by what was written.
-use Rattle.std.proofs.Common.{◌≡◌, ◌≢◌, ◌∙◌, ℕ, true, false, Option, Some, None, take, unwrap_or, arith, refl, sym, ap, subst}
+use Rattle.std.proofs.Common.{◌≡◌, ◌≢◌, ◌∙◌, ℕ, ◌+◌, ◌≤◌, true, false, Option, Some, None, take, unwrap_or, arith, refl, sym, ap, subst}
 use Rattle.std.proofs.lemmas.Bool.{false≢true}
 use Rattle.hippo_values.specs.Texts.{Txt}
 use Rattle.hippo_io.specs.Told.{Appends, AppendsFront}
 use Rattle.hippo_model.specs.Terms.{History}
 use Rattle.hippo_policy.specs.Books.{BookRepresents}
 use Rattle.hippo_keeper.specs.Answering.{has_failed}
-use Rattle.hippo_keeper.specs.Keeping.{KeeperState, IsReady}
+use Rattle.hippo_keeper.specs.Keeping.{KeeperState, IsReady, IsAfterCall, KeepsSame}
+use Rattle.hippo_keeper.specs.Selecting.{stored_versions}
 use Rattle.hippo_keeper.proofs.CallLemmas.{IsAfterCall-none, KeepsSame-here}
 use Rattle.hippo_replay.specs.Standing.{Represents}
 use Rattle.hippo_replay.specs.declared.state.State.{State}
 use Rattle.hippo_history_top.specs.declared.asking.Excerpt.{Excerpt}
 use Rattle.hippo_history_top.specs.declared.asking.Page.{Page}
+use Rattle.hippo_history_top.specs.declared.asking.View.{View}
 use Rattle.hippo_history_top.specs.declared.asking.View.TheVariants.{Entries, Rules}
 use Rattle.hippo_program_args.specs.declared.endings.Ending.{Ending}
 use Rattle.hippo_program_args.specs.declared.endings.Ending.TheVariants.{Served, Refused, KeeperFault, ReadFault, WriteFault, Damaged, NoMemory, TooMuch}
@@ -21,7 +23,7 @@ use Rattle.hippo_history_top.specs.Ruling.{rules_by_names}
 use Rattle.hippo_history_top.specs.Saying.{Writes}
 use Rattle.hippo_history_top.specs.ByNames.{entries_shown}
 use Rattle.hippo_history_top.specs.Showing.{shown_text}
-use Rattle.hippo_history_top.specs.Progress.{ShowsAll, WritesPage, ShowsLoaded}
+use Rattle.hippo_history_top.specs.Progress.{HasForms, ShowsAll, WritesPage, ShowsLoaded}
 use Rattle.hippo_history_top.proofs.NameLemmas.{told_by_names}
 use Rattle.hippo_history_top.proofs.PolicyLemmas.{rules_of_first}
 use Rattle.hippo_history_top.proofs.WriteLemmas.{none_of, whole_front, CountsWrites-same}
@@ -82,7 +84,57 @@ module _ (state : State) (written written' : Option Txt) (faults faults' : ℕ) 
       named : (history : History) → Represents state history → entries_shown state.catalog.names excerpt None history ≡ shown_text (Entries excerpt) history
       named history stands = ap (λ known. entries_shown known excerpt None history) stands.names ∙ told_by_names history stands.valid excerpt None
 
-  -- the same holds of the rules, and nothing is read for them
+  -- a text that was computed of the stored history and then written
+  module _ (view : View) (before after : KeeperState) (ticks ticks' : ℕ) (IsSo : History → Type 0) (page : History → Txt)
+      (call : (ending : Ending) → has_failed (ending_as_call ending) ≡ false → IsAfterCall true false (ending_as_call ending) before after)
+      (stays : after.tells → KeepsSame before after) (steps : after.tells → ticks' ≤ ticks + stored_versions before.kept)
+      (is_so : after.tells → (history : History) → Represents state history → HasForms before.kept history → IsSo history × (page history ≡ shown_text view history)) where
+    abbrev Loaded : Ending → Type 0
+    Loaded result = ShowsLoaded state view result before after written written' faults faults' ticks ticks'
+
+    front : {cut : Option Ending} → WritesPage IsSo page cut written written' faults faults'
+        → after.tells → (history : History) → Represents state history → HasForms before.kept history → AppendsFront written written' (shown_text view history)
+    front writes tells history stands forms =
+        let so = is_so tells history stands forms in
+        subst (AppendsFront written written') so.1 (writes.front history so.0)
+
+    -- what cut the text short
+    cut_short : (ending : Ending) → ends_showing (Some ending) ≡ true → ending ≢ Served → has_failed (ending_as_call ending) ≡ false
+        → WritesPage IsSo page (Some ending) written written' faults faults' → Loaded ending
+    cut_short ending listed unended fine writes = record {
+      call = call ending fine;
+      stays = stays;
+      status = listed;
+      writes = writes.writes;
+      whole = λ is. absurd (unended is);
+      front = front writes;
+      damaged = λ is. absurd (writes.sound (ap Some is));
+      steps = steps;
+    }
+
+    pub loaded_page : (cut : Option Ending) → WritesPage IsSo page cut written written' faults faults' → Loaded (unwrap_or cut Served)
+    loaded_page None writes = record {
+      call = call Served refl;
+      stays = stays;
+      status = refl;
+      writes = record { cause = λ e. absurd cc; unfailed = λ e. writes.writes.unfailed (λ e. cc) };
+      whole = λ is tells history stands forms.
+          let so = is_so tells history stands forms in
+          subst (Appends written written') so.1 (writes.whole refl history so.0);
+      front = front writes;
+      damaged = λ is. absurd cc;
+      steps = steps;
+    }
+    loaded_page (Some WriteFault) writes = cut_short WriteFault refl (λ e. cc) refl writes
+    loaded_page (Some NoMemory) writes = cut_short NoMemory refl (λ e. cc) refl writes
+    loaded_page (Some Damaged) writes = absurd (writes.sound refl)
+    loaded_page (Some Served) writes = absurd (false≢true writes.ends)
+    loaded_page (Some Refused) writes = absurd (false≢true writes.ends)
+    loaded_page (Some KeeperFault) writes = absurd (false≢true writes.ends)
+    loaded_page (Some ReadFault) writes = absurd (false≢true writes.ends)
+    loaded_page (Some TooMuch) writes = absurd (false≢true writes.ends)
+
+  -- the rules are computed in memory, and nothing is read for them
   module _ (page : Page) (keeper : KeeperState) (ready : IsReady true keeper) (ticks : ℕ) where
     abbrev text : History → Txt
     text history = rules_by_names state.catalog.names page.format page.scope (take page.last history)
@@ -91,43 +143,9 @@ module _ (state : State) (written written' : Option Txt) (faults faults' : ℕ) 
     named history stands =
         ap (λ known. rules_by_names known page.format page.scope (take page.last history)) stands.names ∙ rules_of_first history stands.valid page.last page.format page.scope
 
-    abbrev Loaded : Ending → Type 0
-    Loaded result = ShowsLoaded state (Rules page) result keeper keeper written written' faults faults' ticks ticks
-
-    front : {cut : Option Ending} → WritesPage (BookRepresents state.book) text cut written written' faults faults'
-        → (history : History) → Represents state history → AppendsFront written written' (shown_text (Rules page) history)
-    front writes history stands = subst (AppendsFront written written') (named history stands) (writes.front history stands.book)
-
-    -- what cut the text short
-    cut_short : (ending : Ending) → ends_showing (Some ending) ≡ true → ending ≢ Served → has_failed (ending_as_call ending) ≡ false
-        → WritesPage (BookRepresents state.book) text (Some ending) written written' faults faults' → Loaded ending
-    cut_short ending listed unended fine writes = record {
-      call = IsAfterCall-none (ending_as_call ending) keeper fine ready;
-      stays = λ tells. KeepsSame-here keeper;
-      status = listed;
-      writes = writes.writes;
-      whole = λ is. absurd (unended is);
-      front = λ tells history stands forms. front writes history stands;
-      damaged = λ is. absurd (writes.sound (ap Some is));
-      steps = λ tells. omega arith;
-    }
-
-    pub loaded_rules : (cut : Option Ending) → WritesPage (BookRepresents state.book) text cut written written' faults faults' → Loaded (unwrap_or cut Served)
-    loaded_rules None writes = record {
-      call = IsAfterCall-none (ending_as_call Served) keeper refl ready;
-      stays = λ tells. KeepsSame-here keeper;
-      status = refl;
-      writes = record { cause = λ e. absurd cc; unfailed = λ e. writes.writes.unfailed (λ e. cc) };
-      whole = λ is tells history stands forms. subst (Appends written written') (named history stands) (writes.whole refl history stands.book);
-      front = λ tells history stands forms. front writes history stands;
-      damaged = λ is. absurd cc;
-      steps = λ tells. omega arith;
-    }
-    loaded_rules (Some WriteFault) writes = cut_short WriteFault refl (λ e. cc) refl writes
-    loaded_rules (Some NoMemory) writes = cut_short NoMemory refl (λ e. cc) refl writes
-    loaded_rules (Some Damaged) writes = absurd (writes.sound refl)
-    loaded_rules (Some Served) writes = absurd (false≢true writes.ends)
-    loaded_rules (Some Refused) writes = absurd (false≢true writes.ends)
-    loaded_rules (Some KeeperFault) writes = absurd (false≢true writes.ends)
-    loaded_rules (Some ReadFault) writes = absurd (false≢true writes.ends)
-    loaded_rules (Some TooMuch) writes = absurd (false≢true writes.ends)
+    pub loaded_rules : (cut : Option Ending) → WritesPage (BookRepresents state.book) text cut written written' faults faults'
+        → ShowsLoaded state (Rules page) (unwrap_or cut Served) keeper keeper written written' faults faults' ticks ticks
+    loaded_rules cut writes =
+        loaded_page (Rules page) keeper keeper ticks ticks (BookRepresents state.book) text
+        (λ ending fine. IsAfterCall-none (ending_as_call ending) keeper fine ready) (λ tells. KeepsSame-here keeper) (λ tells. omega arith)
+        (λ tells history stands forms. (stands.book, named history stands)) cut writes

@@ -1,15 +1,16 @@
 -- Each status belongs to one ending.
-use Rattle.std.proofs.Common.{◌≡◌, ◌≢◌, ◌⊎◌, ◌∙◌, ℕ, Bool, true, false, Any, Option, Some, arith, refl, sym, ap, subst}
+use Rattle.std.proofs.Common.{◌≡◌, ◌≢◌, ◌⊎◌, ◌∙◌, inl, inr, ℕ, Bool, true, false, Any, Option, Some, arith, refl, sym, ap, subst}
 use Rattle.std.proofs.lemmas.Bool.{false≢true}
 use Rattle.std.proofs.lemmas.Option.{same_Some}
 use Rattle.hippo_values.specs.Texts.{Txt}
 use Rattle.hippo_io.specs.Faults.{HasRisen}
 use Rattle.hippo_keeper.specs.Keeping.{KeeperState, IsAfterCall}
+use Rattle.hippo_program_args.specs.Saying.{Says}
 use Rattle.hippo_program_args.specs.Starting.{IsIdle, SaysDamaged, BeginsDamaged}
 use Rattle.hippo_history_top.specs.declared.asking.Call.{Call}
 use Rattle.hippo_history_top.specs.declared.asking.View.{View}
 use Rattle.hippo_program_args.specs.declared.endings.Ending.{Ending}
-use Rattle.hippo_program_args.specs.declared.endings.Ending.TheVariants.{Served, KeeperFault, WriteFault, Damaged, NoMemory}
+use Rattle.hippo_program_args.specs.declared.endings.Ending.TheVariants.{Served, Refused, KeeperFault, WriteFault, Damaged, NoMemory}
 use Rattle.hippo_program_args.specs.Endings.{status_of, ending_as_call}
 use Rattle.hippo_history_top.specs.Endings.{ends_showing, showing_statuses}
 use Rattle.hippo_history_top.specs.Saying.{CountsWrites}
@@ -23,6 +24,12 @@ status-listed WriteFault status listed e = (3, 5, omega arith, refl, e)
 status-listed Damaged status listed e = (4, 6, omega arith, refl, e)
 status-listed NoMemory status listed e = (5, 7, omega arith, refl, e)
 status-listed ending status listed e = absurd (false≢true listed)
+
+-- so is the status of a refusal
+pub refusal-listed : (ending : Ending) (status : ℕ) (line : Txt) (written written' : Option Txt) (faults faults' : ℕ) → Says Refused line WriteFault ending written written' faults faults' → status ≡ status_of ending
+    → Any (λ listed. status ≡ listed) showing_statuses
+refusal-listed ending status line written written' faults faults' (inl all) e = (1, 2, omega arith, refl, e ∙ ap status_of all.0)
+refusal-listed ending status line written written' faults faults' (inr front) e = (3, 5, omega arith, refl, e ∙ ap status_of front.0)
 
 -- the result of showing, by its status
 module _ (view : View) (name : Txt) (before after : KeeperState) (written written' : Option Txt) (unwritten : Type 0) where

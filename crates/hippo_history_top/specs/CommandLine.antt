@@ -17,7 +17,7 @@ use Rattle.hippo_history_top.specs.declared.asking.Page.{Page}
 use Rattle.hippo_history_top.specs.declared.asking.Scope.{Scope}
 use Rattle.hippo_history_top.specs.declared.asking.Scope.TheVariants.{Whole, Table}
 use Rattle.hippo_history_top.specs.declared.asking.View.{View}
-use Rattle.hippo_history_top.specs.declared.asking.View.TheVariants.{Entries, Rules}
+use Rattle.hippo_history_top.specs.declared.asking.View.TheVariants.{Entries, Rules, Digest}
 
 -- the command, as clap is given it
 abbrev pub showing_command_line : App
@@ -25,7 +25,7 @@ showing_command_line = command_with (codes "hippo_history")
     (needed_option (codes "store") ∷ entry_option (codes "entry") ∷ entry_option (codes "from")
     ∷ entry_option (codes "to") ∷ text_option (codes "table") ∷ flag (codes "tables")
     ∷ flag (codes "script")
-    ∷ flag (codes "rules") ∷ text_option (codes "format") ∷ [])
+    ∷ flag (codes "rules") ∷ flag (codes "digest") ∷ text_option (codes "format") ∷ [])
 
 -- whether a flag, a name without a value, is given
 abbrev pub is_on : Txt → List Row → Bool
@@ -55,8 +55,19 @@ has_form rows = is_on (codes "tables") rows || is_on (codes "script") rows
 abbrev pub rules_fit : List Row → Bool
 rules_fit rows = not (is_on (codes "rules") rows && (has_end rows || has_form rows))
 
+-- the digest is that of the entries up to one, or of all; it cannot be combined with anything else
+abbrev pub has_selection : List Row → Bool
+has_selection rows =
+    is_some (first_of (codes "entry") rows) || is_some (first_of (codes "from") rows)
+    || is_some (first_of (codes "table") rows) || is_some (first_of (codes "format") rows)
+
+abbrev pub digest_fits : List Row → Bool
+digest_fits rows =
+    not (is_on (codes "digest") rows
+    && (has_selection rows || has_form rows || is_on (codes "rules") rows))
+
 abbrev pub options_fit : List Row → Bool
-options_fit rows = entry_fits rows && rules_fit rows
+options_fit rows = entry_fits rows && rules_fit rows && digest_fits rows
 
 -- the table whose entries or rules are shown; `None` if the word is not a name
 abbrev pub scope_of : Option Txt → Option Scope
@@ -94,6 +105,7 @@ page_in rows format scope = record { last = last_in rows; scope = scope; format 
 abbrev pub view_in : List Row → Format → Scope → View
 view_in rows format scope =
     if is_on (codes "rules") rows then Rules (page_in rows format scope)
+    else if is_on (codes "digest") rows then Digest (last_in rows)
     else Entries (excerpt_in rows format scope)
 
 abbrev pub call_with : List Row → Format → Scope → Call

@@ -2,7 +2,9 @@ pub mod CommandLine
 pub mod Endings
 pub mod Saying
 pub mod Ruling
+pub mod Digests
 pub mod Showing
 pub mod ByNames
 pub mod Progress
+pub mod Digesting
 pub mod Outcomes

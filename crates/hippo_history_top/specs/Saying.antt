@@ -9,7 +9,7 @@ use Rattle.hippo_program_args.specs.declared.endings.Ending.TheVariants.{WriteFa
 -- how to call the program
 unfoldable pub showing_usage : Txt
 showing_usage =
-    codes "usage: hippo_history --store NAME [--entry N | [--from N] [--to N]] [--table NAME] [--rules | [--tables] [--script]]"
+    codes "usage: hippo_history --store NAME [--entry N | [--from N] [--to N]] [--table NAME] [--rules | --digest | [--tables] [--script]]"
     ++ codes " [--format text|json|csv]\n"
 
 -- a text is written; or the sink failed, and a prefix of it is written; or memory ran out, and

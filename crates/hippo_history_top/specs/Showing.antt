@@ -25,9 +25,10 @@ use Rattle.hippo_history_top.specs.declared.asking.Form.TheVariants.{Listing, Sc
 use Rattle.hippo_history_top.specs.declared.asking.Scope.{Scope}
 use Rattle.hippo_history_top.specs.declared.asking.Scope.TheVariants.{Whole, Table}
 use Rattle.hippo_history_top.specs.declared.asking.View.{View}
-use Rattle.hippo_history_top.specs.declared.asking.View.TheVariants.{Entries, Rules}
+use Rattle.hippo_history_top.specs.declared.asking.View.TheVariants.{Entries, Rules, Digest}
 use Rattle.hippo_history_formats.specs.Formats.{entry_by}
 use Rattle.hippo_history_top.specs.Ruling.{rules_shown}
+use Rattle.hippo_history_top.specs.Digests.{digest_shown}
 
 -- whether a text is a question that names this table in FROM
 abbrev pub is_question_of : KnownNames → Name → Txt → Bool
@@ -113,7 +114,9 @@ abbrev pub entries_told : History → Excerpt → Option Moment → History → 
 entries_told history excerpt clock entries =
     entries_where (is_told history excerpt) (told_as history excerpt.form) clock entries
 
--- what is asked for of a history: an excerpt, or the rules in force after its first entries
+-- what is asked for of a history: an excerpt, the rules in force after its first entries, or the
+-- digest of its first entries
 abbrev pub shown_text : View → History → Txt
 shown_text (Entries excerpt) history = entries_told history excerpt None history
 shown_text (Rules page) history = rules_shown page.format page.scope (take page.last history)
+shown_text (Digest last) history = digest_shown (take last history)

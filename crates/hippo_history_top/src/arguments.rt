@@ -7,7 +7,7 @@ use clap::ArgMatches;
 use hippo_program_args::{Argument, text_of};
 
 /// The arguments that the command takes.
-pub(crate) const ARGUMENTS: [Argument<'static>; 9] = [
+pub(crate) const ARGUMENTS: [Argument<'static>; 10] = [
     Argument::Needed("store"),
     Argument::Entry("entry"),
     Argument::Entry("from"),
@@ -16,6 +16,7 @@ pub(crate) const ARGUMENTS: [Argument<'static>; 9] = [
     Argument::Flag("tables"),
     Argument::Flag("script"),
     Argument::Flag("rules"),
+    Argument::Flag("digest"),
     Argument::Text("format"),
 ];
 

@@ -54,6 +54,8 @@ pub enum View {
     Entries(Excerpt),
     /// The rules in force.
     Rules(Page),
+    /// The digest of the entries up to this number.
+    Digest(u64),
 }
 
 /// The name of a store, and what is shown of its history.

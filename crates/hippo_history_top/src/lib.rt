@@ -1,9 +1,10 @@
-//! What a store holds, in a form that people can read: its entries, or the rules in force. This
-//! crate has the command line and the top function.
+//! What a store holds, in a form that people can read: its entries, the rules in force, or a digest
+//! of its entries. This crate has the command line and the top function.
 #![tactic(auto)]
 
 mod arguments;
 mod asking;
+mod digest;
 mod endings;
 mod lines;
 mod printing;

@@ -7,7 +7,7 @@ use hippo_io::{Failed, Sink, write_whole};
 use hippo_program_args::{Ending, say};
 
 const USAGE: &str =
-    "usage: hippo_history --store NAME [--entry N | [--from N] [--to N]] [--table NAME] [--rules | [--tables] [--script]] \
+    "usage: hippo_history --store NAME [--entry N | [--from N] [--to N]] [--table NAME] [--rules | --digest | [--tables] [--script]] \
      [--format text|json|csv]\n";
 
 /// Writes the usage line.

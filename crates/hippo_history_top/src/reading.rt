@@ -2,7 +2,7 @@
 ghost use Rattle.std.specs.Prelude.{◌≡◌, ◌||◌, codes, map, is_some, IfOk};
 ghost use Rattle.clap.specs.Words.{first_of, rows_of, found_of};
 ghost use Rattle.hippo_program_args.specs.Arguments.{FindsMatches};
-ghost use Rattle.hippo_history_top.specs.CommandLine.{showing_command_line, first_in, last_in, has_end, entry_fits, has_form, rules_fit, options_fit, scope_of, is_text_format, format_fits, shown_form, acts_in, excerpt_in, page_in, view_in, call_with, call_in_format, showing_call, asked_of};
+ghost use Rattle.hippo_history_top.specs.CommandLine.{showing_command_line, is_on, first_in, last_in, has_end, entry_fits, has_form, rules_fit, has_selection, digest_fits, options_fit, scope_of, is_text_format, format_fits, shown_form, acts_in, excerpt_in, page_in, view_in, call_with, call_in_format, showing_call, asked_of};
 
 use crate::arguments::{ARGUMENTS, is_on};
 use crate::asking::{Acts, Call, Excerpt, Form, Page, Scope, View};
@@ -56,10 +56,33 @@ fn rules_fit(matches: &ArgMatches<'_>) -> bool
     !(is_on(matches, "rules") && is_of_entries(matches))
 }
 
+fn has_selection(matches: &ArgMatches<'_>) -> bool
+    ensures { result ≡ has_selection (rows_of (found_of matches.now)) }
+{
+    is_there(matches, "entry")
+        || is_there(matches, "from")
+        || is_there(matches, "table")
+        || is_there(matches, "format")
+}
+
+fn is_of_no_digest(matches: &ArgMatches<'_>) -> bool
+    ensures { result ≡ (has_selection (rows_of (found_of matches.now))
+        || has_form (rows_of (found_of matches.now))
+        || is_on (codes "rules") (rows_of (found_of matches.now))) }
+{
+    has_selection(matches) || has_form(matches) || is_on(matches, "rules")
+}
+
+fn digest_fits(matches: &ArgMatches<'_>) -> bool
+    ensures { result ≡ digest_fits (rows_of (found_of matches.now)) }
+{
+    !(is_on(matches, "digest") && is_of_no_digest(matches))
+}
+
 fn fits(matches: &ArgMatches<'_>) -> bool
     ensures { result ≡ options_fit (rows_of (found_of matches.now)) }
 {
-    entry_fits(matches) && rules_fit(matches)
+    entry_fits(matches) && rules_fit(matches) && digest_fits(matches)
 }
 
 fn first_of(matches: &ArgMatches<'_>) -> Result<u64, Memory>
@@ -152,6 +175,8 @@ fn view_of(matches: &ArgMatches<'_>, format: Format, scope: Scope) -> Result<Vie
 {
     if is_on(matches, "rules") {
         Ok(View::Rules(page_of(matches, format, scope)?))
+    } else if is_on(matches, "digest") {
+        Ok(View::Digest(last_of(matches)?))
     } else {
         Ok(View::Entries(excerpt_of(matches, format, scope)?))
     }
@@ -214,7 +239,8 @@ fn asked_in(alloc: Global, words: &[&str]) -> Result<Option<Call>, Memory>
 ///   three;
 /// - `--entry` is given with `--from` or `--to`;
 /// - `--rules` is given with `--from`, `--to`, `--tables` or `--script`;
-/// - `--script` is given with another format than text.
+/// - `--script` is given with another format than text;
+/// - `--digest` is given with anything but `--store` and `--to`.
 ///
 /// ```text
 /// --store clinic.db --entry 18
@@ -224,6 +250,8 @@ fn asked_in(alloc: Global, words: &[&str]) -> Result<Option<Call>, Memory>
 /// --store clinic.db --rules
 /// --store clinic.db --rules --entry 18 --table patient
 /// --store clinic.db --rules --format csv
+/// --store clinic.db --digest
+/// --store clinic.db --digest --to 17
 /// ```
 pub fn asked_of(alloc: Global, words: &[Txt]) -> Result<Option<Call>, Memory>
     ensures { IfOk result (λ call. call ≡ asked_of words.now) }

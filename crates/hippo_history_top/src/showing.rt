@@ -20,8 +20,8 @@ use hippo_values::{Memory, Moment, Txt};
 use std::alloc::Global;
 use std::sync::ledger::Ledger;
 
-// How many entries are read at a time.
-const PIECE: u64 = 1000;
+/// How many entries are read at a time.
+pub(crate) const PIECE: u64 = 1000;
 
 // What is shown, and the names that are used for it.
 #[derive(Clone, Copy)]

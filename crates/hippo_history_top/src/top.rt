@@ -17,6 +17,7 @@ ghost use Rattle.hippo_history_top.specs.Outcomes.{ShowsView, BeginsView, Ends};
 ghost use Rattle.hippo_history_top.specs.Saying.{showing_usage, CountsWrites};
 
 use crate::asking::{Page, View};
+use crate::digest::show_digest;
 use crate::endings::served_or;
 use crate::printing::{refuse, write_lines};
 use crate::reading::asked_of;
@@ -75,6 +76,10 @@ fn show_view<K: Sink, P: Keeper, L: Ledger>(
             state.close();
             ending
         }
+        View::Digest(last) => {
+            state.close();
+            show_digest(alloc, *last, sink, keeper, steps)
+        }
     }
 }
 
@@ -122,8 +127,8 @@ fn show<K: Sink, P: Keeper, L: Ledger>(
 ///
 /// Once the keeper has started, the stored entries stay as they were found. They are read in
 /// pieces. The first read loads the history, so that damage is reported before anything else is
-/// written. If entries are asked for, a second read shows them. The rules in force are computed in
-/// memory from what was loaded, and then written.
+/// written. If entries or their digest are asked for, a second read shows them. The rules in force
+/// are computed in memory from what was loaded, and then written.
 pub fn history_top<K: Sink, P: Keeper, L: Ledger>(
     alloc: Global,
     words: &[Txt],

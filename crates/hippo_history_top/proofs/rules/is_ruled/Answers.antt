@@ -1,5 +1,5 @@
 -- A column has a rule, or the remaining ones decide.
-use Rattle.std.proofs.Common.{length, take, arith}
+use Rattle.std.proofs.Common.{take, arith}
 use Rattle.hippo_history_top.proofs.PolicyLemmas.{column_ruled, column_unruled}
 use Rattle.hippo_history_top.proofs.rules.is_ruled.Goals as goal
 

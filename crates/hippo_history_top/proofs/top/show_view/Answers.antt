@@ -1,4 +1,4 @@
--- Entries are shown, or the rules.
+-- Entries are shown, or the rules, or a digest.
 use Rattle.std.proofs.Common.{sym, subst}
 use Rattle.hippo_history_top.specs.declared.asking.View.{View}
 use Rattle.hippo_history_top.specs.declared.asking.View.TheVariants.{Rules}
@@ -32,3 +32,12 @@ returns-in-Rules g c =
           (loaded_rules c.args.state (g.K.Sink.written c.args.sink.now) (g.K.Sink.written c.write_rules-cut.new.sink) (g.K.Sink.faults c.args.sink.now) (g.K.Sink.faults c.write_rules-cut.new.sink)
           c.in-Rules.page keeper c.requires.readable.ready c.args.steps.now c.write_rules-cut.result c.write_rules-cut.ensures.writes));
     }
+
+pub returns-in-Digest : goal.returns-in-Digest
+returns-in-Digest g c = record {
+  shows = subst
+      (λ (view : View). ShowsLoaded c.args.state view c.show_digest.result (g.P.Keeper.state c.args.keeper.now) (g.P.Keeper.state c.show_digest.new.keeper)
+      (g.K.Sink.written c.args.sink.now) (g.K.Sink.written c.show_digest.new.sink) (g.K.Sink.faults c.args.sink.now) (g.K.Sink.faults c.show_digest.new.sink) c.args.steps.now c.show_digest.new.steps)
+      (sym c.in-Digest.is)
+      (c.show_digest.ensures.shows c.args.state);
+}
