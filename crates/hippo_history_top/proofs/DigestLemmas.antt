@@ -22,8 +22,8 @@ use Rattle.hippo_history_top.specs.declared.digest.Chain.{Chain}
 use Rattle.hippo_program_args.specs.declared.endings.Ending.{Ending}
 use Rattle.hippo_program_args.specs.declared.endings.Ending.TheVariants.{Served, KeeperFault, WriteFault, Damaged, NoMemory}
 use Rattle.hippo_program_args.specs.Endings.{ending_as_call}
-use Rattle.hippo_history_top.specs.Digests.{with_entry, no_digest, digest_after, digest_line}
-use Rattle.hippo_history_top.specs.Digesting.{empty_chain, Covers, DigestsNext, IsDigesting, DigestsAll}
+use Rattle.hippo_history_top.specs.Digests.{digest_with, no_digest, digest_after, digest_line}
+use Rattle.hippo_history_top.specs.Digesting.{empty_chain, CoversEntries, DigestsNext, IsDigesting, DigestsAll}
 use Rattle.hippo_history_top.specs.Endings.{ends_showing, ending_of}
 use Rattle.hippo_history_top.specs.Saying.{Writes}
 use Rattle.hippo_history_top.specs.Showing.{shown_text}
@@ -32,17 +32,17 @@ use Rattle.hippo_history_top.proofs.KeptLemmas.{last-both}
 use Rattle.hippo_history_top.proofs.PageLemmas.{page_written, loaded_page}
 use Rattle.hippo_history_top.proofs.WriteLemmas.{none_of, CountsWrites-same}
 
-Covers-none : (chain : Chain) → Covers [] chain chain
-Covers-none chain = record { counted = omega arith; last = refl; digested = refl }
+CoversEntries-none : (chain : Chain) → CoversEntries [] chain chain
+CoversEntries-none chain = record { counted = omega arith; last = refl; digested = refl }
 
-Covers-then : (first second : Store) (old mid new : Chain) → Covers first old mid → Covers second mid new → Covers (first ++ second) old new
-Covers-then first second old mid new one other = record {
+CoversEntries-then : (first second : Store) (old mid new : Chain) → CoversEntries first old mid → CoversEntries second mid new → CoversEntries (first ++ second) old new
+CoversEntries-then first second old mid new one other = record {
   counted =
       let here = one.counted in
       let there = other.counted in
       omega (arith, here, there, length-append first second);
   last = other.last ∙ ap (λ (n : ℕ). last_number n second) one.last ∙ sym (last-both old.number first second);
-  digested = other.digested ∙ ap (λ (d : List ℕ). digest_after d second) one.digested ∙ sym (fold-append with_entry old.digest first second);
+  digested = other.digested ∙ ap (λ (d : List ℕ). digest_after d second) one.digested ∙ sym (fold-append digest_with old.digest first second);
 }
 
 some_there : (piece : Store) → ¬ (piece ≡ []) → 0 < length piece
@@ -71,7 +71,7 @@ DigestsNext-full last keeper chain ticks ready within none = record {
     stays = λ tells. KeepsSame-here keeper;
     steps = omega arith;
   };
-  covers = Covers-none chain;
+  covers = CoversEntries-none chain;
   within = within;
   more = λ e. absurd cc;
   told = λ tells read rest upto. (rest, refl);
@@ -85,7 +85,7 @@ DigestsNext-full last keeper chain ticks ready within none = record {
 module _ (last max : ℕ) (before after : KeeperState) (old : Chain) (ticks ticks' : ℕ) where
   -- a piece was read
   module _ (new : Chain) (piece : Store) (some : 0 < max) (room : max ≤ last - old.count) (within : old.count ≤ last)
-      (reads : ReadsEntries is_any old.number max (Ok piece) before after) (counted : ticks' ≡ ticks + stored_versions piece) (covers : Covers piece old new) where
+      (reads : ReadsEntries is_any old.number max (Ok piece) before after) (counted : ticks' ≡ ticks + stored_versions piece) (covers : CoversEntries piece old new) where
     handed : after.tells → (read rest : Store) → IsReadUpTo old.number before read rest → piece ≡ take max rest
     handed tells read rest upto =
         reads.ok.told tells ∙ ap (selected_entries is_any old.number max) upto.whole
@@ -128,7 +128,7 @@ module _ (last max : ℕ) (before after : KeeperState) (old : Chain) (ticks tick
       stays = λ tells. KeepsSame-Stays before after (reads.stays tells);
       steps = counted;
     };
-    covers = Covers-none old;
+    covers = CoversEntries-none old;
     within = within;
     more = λ e. absurd cc;
     told = λ tells read rest upto. (rest, refl);
@@ -145,7 +145,7 @@ IsDigesting-first last keeper ticks ready = record {
     stays = λ tells. KeepsSame-here keeper;
     steps = omega arith;
   };
-  covers = Covers-none empty_chain;
+  covers = CoversEntries-none empty_chain;
   within = omega arith;
   told = λ tells. (keeper.kept, refl);
 }
@@ -183,8 +183,8 @@ module _ (last : ℕ) (before now : KeeperState) (chain : Chain) (ticks ticks' :
           omega (arith, one, other, both);
     }
 
-    covered : Covers (so_far.read ++ next.piece) empty_chain chain'
-    covered = Covers-then so_far.read next.piece empty_chain chain chain' so_far.covers next.covers
+    covered : CoversEntries (so_far.read ++ next.piece) empty_chain chain'
+    covered = CoversEntries-then so_far.read next.piece empty_chain chain chain' so_far.covers next.covers
 
     -- one more piece
     pub IsDigesting-on : result ≡ Ok true → IsDigesting last before after chain' ticks ticks''
@@ -202,7 +202,7 @@ module _ (last : ℕ) (before now : KeeperState) (chain : Chain) (ticks ticks' :
       read = so_far.read ++ next.piece;
       hands = both_handed (Ok chain') (ap has_failed (sym is));
       told = longer;
-      whole = λ tells. subst (λ (entries : Store). Covers entries empty_chain chain') (sym (all_read tells)) covered;
+      whole = λ tells. subst (λ (entries : Store). CoversEntries entries empty_chain chain') (sym (all_read tells)) covered;
     }
       where
         all_read : after.tells → take last before.kept ≡ so_far.read ++ next.piece
@@ -239,7 +239,7 @@ module _ (state : State) (last : ℕ) (before after : KeeperState) (ticks ticks'
   line_of chain all tells history forms =
       ap (λ (n : ℕ). digest_line n chain.digest) counted ∙ ap (digest_line (length (take last history))) digested
     where
-      covers : Covers (take last before.kept) empty_chain chain
+      covers : CoversEntries (take last before.kept) empty_chain chain
       covers = all.whole tells
 
       first : take last before.kept ≡ map stored (take last history)

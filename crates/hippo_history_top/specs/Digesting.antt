@@ -12,7 +12,7 @@ abbrev pub empty_chain : Chain
 empty_chain = record { count = 0; number = 0; digest = no_digest }
 
 -- the digest goes on over these entries
-pub record Covers (entries : Store) (old new : Chain) : Type 0 where
+pub record CoversEntries (entries : Store) (old new : Chain) : Type 0 where
   pub counted : new.count ≡ old.count + length entries
   pub last : new.number ≡ last_number old.number entries
   pub digested : new.digest ≡ digest_after old.digest entries
@@ -23,7 +23,7 @@ pub record DigestsNext (last : ℕ) (result : Result Bool KeeperFault) (before a
     (old new : Chain) (ticks ticks' : ℕ) : Type 0 where
   pub piece : Store
   pub hands : HandsOver result piece before after ticks ticks'
-  pub covers : Covers piece old new
+  pub covers : CoversEntries piece old new
   pub within : new.count ≤ last
   pub more : result ≡ Ok true → old.count < new.count
   pub told : after.tells → (read rest : Store) → IsReadUpTo old.number before read rest
@@ -37,7 +37,7 @@ pub record IsDigesting (last : ℕ) (before now : KeeperState) (chain : Chain) (
     : Type 0 where
   pub read : Store
   pub hands : HandsOver {A = Unit {0}} (Ok tt) read before now ticks ticks'
-  pub covers : Covers read empty_chain chain
+  pub covers : CoversEntries read empty_chain chain
   pub within : chain.count ≤ last
   pub told : now.tells → ((remaining : Store) × (before.kept ≡ read ++ remaining))
 
@@ -47,4 +47,4 @@ pub record DigestsAll (last : ℕ) (result : Result Chain KeeperFault) (before a
   pub read : Store
   pub hands : HandsOver result read before after ticks ticks'
   pub told : after.tells → ((remaining : Store) × (before.kept ≡ read ++ remaining))
-  pub whole : IfOk result (λ chain. after.tells → Covers (take last before.kept) empty_chain chain)
+  pub whole : IfOk result (λ chain. after.tells → CoversEntries (take last before.kept) empty_chain chain)

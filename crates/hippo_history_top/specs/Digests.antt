@@ -17,12 +17,12 @@ no_digest = replicate 32 0
 abbrev pub next_digest : List ℕ → List ℕ → List ℕ
 next_digest digest body = sha256 (digest ++ body)
 
-abbrev pub with_entry : List ℕ → StoredEntry → List ℕ
-with_entry digest entry = next_digest digest entry.body
+abbrev pub digest_with : List ℕ → StoredEntry → List ℕ
+digest_with digest entry = next_digest digest entry.body
 
 -- a digest with further stored entries, one after another
 abbrev pub digest_after : List ℕ → List StoredEntry → List ℕ
-digest_after digest entries = fold with_entry digest entries
+digest_after digest entries = fold digest_with digest entries
 
 -- the digest of a history
 abbrev pub digest_of : History → List ℕ

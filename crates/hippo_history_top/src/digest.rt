@@ -4,7 +4,7 @@ ghost use Rattle.hippo_keeper.specs.Keeping.{IsReady};
 ghost use Rattle.hippo_replay.specs.declared.state.State.{State};
 ghost use Rattle.hippo_history_top.specs.declared.asking.View.TheVariants.{Digest as DigestView};
 ghost use Rattle.hippo_history_top.specs.Digests.{next_digest, digest_line};
-ghost use Rattle.hippo_history_top.specs.Digesting.{Covers, DigestsNext, DigestsAll};
+ghost use Rattle.hippo_history_top.specs.Digesting.{CoversEntries, DigestsNext, DigestsAll};
 ghost use Rattle.hippo_history_top.specs.Progress.{IsReadable, ShowsLoaded};
 ghost use Rattle.hippo_history_top.specs.Saying.{Writes};
 
@@ -43,7 +43,7 @@ fn next_digest(digest: &[u8; 32], body: &[u8]) -> [u8; 32]
 // Goes on over the entries of a piece.
 fn cover(chain: &mut Chain, piece: &[StoredEntry])
     requires room { chain.old.count + length piece.now < 2 ^ 64 }
-    ensures covers { Covers piece.now chain.old chain.new }
+    ensures covers { CoversEntries piece.now chain.old chain.new }
 {
     for kept in piece {
         chain.count += 1;
