@@ -1,5 +1,5 @@
 -- What follows from the call that the words ask for.
-use Rattle.std.proofs.Common.{◌≡◌, ◌≢◌, ℕ, List, [], Option, Some, inl, inr, arith, ap, sym, subst, ◌∙◌}
+use Rattle.std.proofs.Common.{◌≡◌, ◌≢◌, ℕ, List, [], Option, Some, inl, inr, arith, refl, ap, sym, subst, ◌∙◌}
 use Rattle.std.specs.Prelude.{option_map}
 use Rattle.std.specs.Option.{option_map_or}
 use Rattle.hippo_values.specs.Texts.{Txt}
@@ -11,12 +11,13 @@ use Rattle.hippo_program_args.specs.Starting.{IsIdle}
 use Rattle.hippo_serve_args.specs.declared.calls.Call.{Call}
 use Rattle.hippo_serve_args.specs.declared.calls.Job.{Job}
 use Rattle.hippo_serve_args.specs.declared.calls.Job.TheVariants.{Drill}
+use Rattle.hippo_serve_args.specs.declared.calls.Setting.{Setting}
 use Rattle.hippo_program_args.specs.declared.endings.Ending.{Ending}
 use Rattle.hippo_program_args.specs.declared.endings.Ending.TheVariants.{Served, Refused, KeeperFault, ReadFault, WriteFault, Damaged, NoMemory, TooMuch}
 use Rattle.hippo_serve_jobs.specs.Drilling.{summary}
 use Rattle.hippo_program_args.specs.Endings.{status_of}
 use Rattle.hippo_serve.specs.Asking.{store_of, job_of, EndsAs}
-use Rattle.hippo_serve_jobs.specs.Outcomes.{CheckEnds}
+use Rattle.hippo_serve_jobs.specs.Outcomes.{RunEnds, CheckEnds}
 use Rattle.hippo_serve_jobs.specs.Outside.{Outside}
 
 -- what holds of an ending holds by its status
@@ -30,6 +31,17 @@ by_status ends Damaged holds = (λ e. absurd (omega (arith, e)), λ e. absurd (o
 by_status ends NoMemory holds = (λ e. absurd (omega (arith, e)), λ e. absurd (omega (arith, e)), λ e. absurd (omega (arith, e)), λ e. absurd (omega (arith, e)), λ e. absurd (omega (arith, e)), λ e. absurd (omega (arith, e)), λ e. holds, λ e. absurd (omega (arith, e)))
 by_status ends TooMuch holds = (λ e. absurd (omega (arith, e)), λ e. absurd (omega (arith, e)), λ e. absurd (omega (arith, e)), λ e. absurd (omega (arith, e)), λ e. absurd (omega (arith, e)), λ e. absurd (omega (arith, e)), λ e. absurd (omega (arith, e)), λ e. holds)
 
+-- only damage has the status 6
+pub status-6 : (ending : Ending) → status_of ending ≡ 6 → ending ≡ Damaged
+status-6 Served e = absurd (omega (arith, e))
+status-6 Refused e = absurd (omega (arith, e))
+status-6 KeeperFault e = absurd (omega (arith, e))
+status-6 ReadFault e = absurd (omega (arith, e))
+status-6 WriteFault e = absurd (omega (arith, e))
+status-6 Damaged e = refl
+status-6 NoMemory e = absurd (omega (arith, e))
+status-6 TooMuch e = absurd (omega (arith, e))
+
 module _ (words : List Txt) (call : Call) (asked : call_of words ≡ Some call) (store : Txt) (named : store ≡ call.store) where
   store_is : store ≡ store_of words
   store_is = named ∙ sym (ap (λ (c : Option Call). option_map_or (λ (d : Call). d.store) c []) asked)
@@ -40,6 +52,13 @@ module _ (words : List Txt) (call : Call) (asked : call_of words ≡ Some call) 
   check_as_asked ending status is unwritten before after ends =
       subst (λ (n : ℕ). EndsAs (λ one. CheckEnds one unwritten (store_of words) before after) n) (sym is)
       (by_status (λ one. CheckEnds one unwritten (store_of words) before after) ending (subst (λ (name : Txt). CheckEnds ending unwritten name before after) store_is ends))
+
+  -- the result of a run or a load
+  pub run_as_asked : (ending : Ending) (status : ℕ) → status ≡ status_of ending → (unread unwritten : Type 0) (setting : Setting) (job : Job) (before after : Outside)
+      → RunEnds ending unread unwritten setting job store before after → EndsAs (λ one. RunEnds one unread unwritten setting job (store_of words) before after) status
+  run_as_asked ending status is unread unwritten setting job before after ends =
+      subst (λ (n : ℕ). EndsAs (λ one. RunEnds one unread unwritten setting job (store_of words) before after) n) (sym is)
+      (by_status (λ one. RunEnds one unread unwritten setting job (store_of words) before after) ending (subst (λ (name : Txt). RunEnds ending unread unwritten setting job name before after) store_is ends))
 
   pub idle_as_asked : (before after : KeeperState) → IsIdle store before after → IsIdle (store_of words) before after
   idle_as_asked before after idle = subst (λ (name : Txt). IsIdle name before after) store_is idle

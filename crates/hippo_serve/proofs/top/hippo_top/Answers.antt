@@ -2,9 +2,12 @@
 -- words name.
 use Rattle.std.proofs.Common.{rules, refl, sym, subst, ◌∙◌}
 use Rattle.hippo_values.specs.Texts.{Txt}
+use Rattle.hippo_io.specs.Inputs.{exposed}
 use Rattle.hippo_io.specs.Told.{Appends, AppendsFront}
+use Rattle.hippo_program_args.specs.Starting.{IsIdle}
+use Rattle.hippo_serve.specs.Asking.{store_of}
 use Rattle.hippo_serve_jobs.specs.Outside.{outside}
-use Rattle.hippo_serve.proofs.AskingLemmas.{check_as_asked, idle_as_asked, summary_as_asked, said_whole, said_front}
+use Rattle.hippo_serve.proofs.AskingLemmas.{status-6, run_as_asked, check_as_asked, idle_as_asked, summary_as_asked, said_whole, said_front}
 use Rattle.hippo_serve_jobs.proofs.StatusLemmas.{status-listed, status-7}
 use Rattle.hippo_serve.proofs.top.hippo_top.Goals as goal
 
@@ -65,3 +68,24 @@ returns-clause-drill_cut g c = λ size number job is.
     subst (λ (line : Txt). AppendsFront (g.K.Sink.written c.args.sink.now) (g.K.Sink.written c.drill.new.sink) line)
     (summary_as_asked c.args.words.now c.in-Some.call (sym c.in-Ok.ensures ∙ c.in-Some.is) size number _ _ c.in-Drill.is job)
     (said_front _ c.drill.result _ _ _ _ c.drill.ensures.says (sym c.status-in-Drill.ensures ∙ is))
+
+pub returns-in-Run-clause-damaged : goal.returns-in-Run-clause-damaged
+returns-in-Run-clause-damaged g c = λ is tells.
+    let ends = run_as_asked c.args.words.now c.in-Some.call (sym c.in-Ok.ensures ∙ c.in-Some.is) c.as_str-store.result.now c.as_str-store.ensures
+    c.run.result _ c.status-in-Run.ensures _ _ _ _
+    (outside (g.S.Source.left c.args.source.now) (g.K.Sink.written c.args.sink.now) (g.P.Keeper.state c.args.keeper.now) c.args.steps.now)
+    (outside (g.S.Source.left c.run.new.source) (g.K.Sink.written c.run.new.sink) (g.P.Keeper.state c.run.new.keeper) c.run.new.steps)
+    (c.run.ensures.ends tells exposed tt) in
+    (c.run.ensures.damaged (status-6 c.run.result (sym c.status-in-Run.ensures ∙ is)) tells, ends.5 is)
+
+pub returns-in-Run-clause-nothing : goal.returns-in-Run-clause-nothing
+returns-in-Run-clause-nothing g c = λ is.
+    let none = status-7 c.run.result (sym c.status-in-Run.ensures ∙ is) in
+    let idle : (g.P.Keeper.state c.run.new.keeper).tells → IsIdle (store_of c.args.words.now) (g.P.Keeper.state c.args.keeper.now) (g.P.Keeper.state c.run.new.keeper) = λ tells.
+    let ends = run_as_asked c.args.words.now c.in-Some.call (sym c.in-Ok.ensures ∙ c.in-Some.is) c.as_str-store.result.now c.as_str-store.ensures
+    c.run.result _ c.status-in-Run.ensures _ _ _ _
+    (outside (g.S.Source.left c.args.source.now) (g.K.Sink.written c.args.sink.now) (g.P.Keeper.state c.args.keeper.now) c.args.steps.now)
+    (outside (g.S.Source.left c.run.new.source) (g.K.Sink.written c.run.new.sink) (g.P.Keeper.state c.run.new.keeper) c.run.new.steps)
+    (c.run.ensures.ends tells exposed tt) in
+    ends.6 is in
+    (c.run.ensures.unread none, c.run.ensures.unwritten none, idle)
