@@ -5,7 +5,7 @@ use Rattle.std.proofs.Math.Dec.{eqb-suc-zero}
 use Rattle.std.proofs.lemmas.Bool.{false≢true, lt-ltb}
 use Rattle.std.proofs.lemmas.List.{length-take-le}
 use Rattle.std.proofs.lemmas.Option.{same_Some}
-use Rattle.hippo_io.specs.Inputs.{Reads, after_read, MayBeWhole, InputView, exposed, assumed, left_in, Fits, FitsReading, ForEachInput, ReadsOn}
+use Rattle.hippo_io.specs.Inputs.{ReadSoFar, after_read, MayBeWhole, InputView, exposed, assumed, left_in, FitsInput, FitsReading, ForEachInput, ReadsMore}
 use borrow.Rule.Slice.PartMut.{put_mid}
 use Rattle.hippo_io.specs.Told.{Keeps, Takes, IsAtEnd, TakesAfter}
 use Rattle.hippo_io.proofs.ReadLemmas.{TakesAfter-from_read}
@@ -28,20 +28,20 @@ ended_true true n some = refl
 ended_true false n some = lt-ltb 0 n some
 
 -- a source from which nothing was read
-pub ReadsOn-none : (reads : Reads) → ReadsOn reads reads
-ReadsOn-none reads = record { more = []; bytes = sym (append-nil reads.bytes) }
+pub ReadsMore-none : (reads : ReadSoFar) → ReadsMore reads reads
+ReadsMore-none reads = record { more = []; bytes = sym (append-nil reads.bytes) }
 
-pub ReadsOn-same : (before after : Reads) → after ≡ before → ReadsOn before after
-ReadsOn-same before after same = subst (λ (r : Reads). ReadsOn before r) (sym same) (ReadsOn-none before)
+pub ReadsMore-same : (before after : ReadSoFar) → after ≡ before → ReadsMore before after
+ReadsMore-same before after same = subst (λ (r : ReadSoFar). ReadsMore before r) (sym same) (ReadsMore-none before)
 
-pub ReadsOn-then : (before mid after : Reads) → ReadsOn before mid → ReadsOn mid after → ReadsOn before after
-ReadsOn-then before mid after one other = record {
+pub ReadsMore-then : (before mid after : ReadSoFar) → ReadsMore before mid → ReadsMore mid after → ReadsMore before after
+ReadsMore-then before mid after one other = record {
   more = one.more ++ other.more;
   bytes = other.bytes ∙ ap (λ l. l ++ other.more) one.bytes ∙ append_assoc before.bytes one.more other.more;
 }
 
 -- a list that may be the whole input later may be it now, while the source has not ended
-pub MayBeWhole-before : (whole : List ℕ) (before after : Reads) → IsFalse before.ended → ReadsOn before after → MayBeWhole whole after → MayBeWhole whole before
+pub MayBeWhole-before : (whole : List ℕ) (before after : ReadSoFar) → IsFalse before.ended → ReadsMore before after → MayBeWhole whole after → MayBeWhole whole before
 MayBeWhole-before whole before after going on may = record {
   rest = on.more ++ may.rest;
   begins = may.begins ∙ ap (λ l. l ++ may.rest) on.bytes ∙ append_assoc before.bytes on.more may.rest;
@@ -49,32 +49,32 @@ MayBeWhole-before whole before after going on may = record {
 }
 
 -- a view that fits up to some state fits up to an earlier one, if the source has not ended there
-pub Fits-before : (input : InputView) (start mid after : Reads) → mid.ended ≡ start.ended → ReadsOn mid after → Fits input start after → Fits input start mid
-Fits-before exposed start mid after same on fits = tt
-Fits-before (assumed whole) start mid after same on fits = (fits.0, MayBeWhole-before whole mid after (same ∙ fits.0) on fits.1)
+pub FitsInput-before : (input : InputView) (start mid after : ReadSoFar) → mid.ended ≡ start.ended → ReadsMore mid after → FitsInput input start after → FitsInput input start mid
+FitsInput-before exposed start mid after same on fits = tt
+FitsInput-before (assumed whole) start mid after same on fits = (fits.0, MayBeWhole-before whole mid after (same ∙ fits.0) on fits.1)
 
 -- and from a later one on
-pub Fits-after : (input : InputView) (start mid after : Reads) → mid.ended ≡ start.ended → Fits input start after → Fits input mid after
-Fits-after exposed start mid after same fits = tt
-Fits-after (assumed whole) start mid after same fits = (same ∙ fits.0, fits.1)
+pub FitsInput-after : (input : InputView) (start mid after : ReadSoFar) → mid.ended ≡ start.ended → FitsInput input start after → FitsInput input mid after
+FitsInput-after exposed start mid after same fits = tt
+FitsInput-after (assumed whole) start mid after same fits = (same ∙ fits.0, fits.1)
 
 -- a view that fits up to the state after a line fits before it, where a line was read or the reader had ended
-pub Fits-line : (input : InputView) (is_over : Bool) (start mid after : Reads) → (IsFalse is_over → mid.ended ≡ start.ended) → (IsTrue is_over → after ≡ mid) → ReadsOn mid after → Fits input start after
-    → Fits input start mid × FitsReading input is_over mid after
-Fits-line exposed is_over start mid after going same on fits = (tt, tt)
-Fits-line (assumed whole) false start mid after going same on fits =
-    (Fits-before (assumed whole) start mid after (going refl) on fits, (inl (going refl ∙ fits.0), fits.1))
-Fits-line (assumed whole) true start mid after going same on fits = ((fits.0, subst (MayBeWhole whole) (same refl) fits.1), (inr refl, fits.1))
+pub FitsInput-line : (input : InputView) (is_over : Bool) (start mid after : ReadSoFar) → (IsFalse is_over → mid.ended ≡ start.ended) → (IsTrue is_over → after ≡ mid) → ReadsMore mid after → FitsInput input start after
+    → FitsInput input start mid × FitsReading input is_over mid after
+FitsInput-line exposed is_over start mid after going same on fits = (tt, tt)
+FitsInput-line (assumed whole) false start mid after going same on fits =
+    (FitsInput-before (assumed whole) start mid after (going refl) on fits, (inl (going refl ∙ fits.0), fits.1))
+FitsInput-line (assumed whole) true start mid after going same on fits = ((fits.0, subst (MayBeWhole whole) (same refl) fits.1), (inr refl, fits.1))
 
 -- what a read takes from the input, by any view
-pub Takes-seen : (input : InputView) (left left' : Option (List ℕ)) (reads reads' : Reads) (n : ℕ) (buffer : List ℕ) → n ≤ length buffer → reads' ≡ after_read reads n buffer
-    → Takes left left' n buffer → Fits input reads reads' → Takes (left_in input left reads) (left_in input left' reads') n buffer
+pub Takes-seen : (input : InputView) (left left' : Option (List ℕ)) (reads reads' : ReadSoFar) (n : ℕ) (buffer : List ℕ) → n ≤ length buffer → reads' ≡ after_read reads n buffer
+    → Takes left left' n buffer → FitsInput input reads reads' → Takes (left_in input left reads) (left_in input left' reads') n buffer
 Takes-seen exposed left left' reads reads' n buffer short read takes fits = takes
 Takes-seen (assumed whole) left left' reads reads' n buffer short read takes fits = λ told is.
     let may = fits.1 in
     let front = take n buffer in
     let size : length front ≡ n = length-take-le n buffer short in
-    let bytes : reads'.bytes ≡ reads.bytes ++ front = ap (λ (r : Reads). r.bytes) read in
+    let bytes : reads'.bytes ≡ reads.bytes ++ front = ap (λ (r : ReadSoFar). r.bytes) read in
     let parts : whole ≡ reads.bytes ++ (front ++ may.rest) = may.begins ∙ ap (λ l. l ++ may.rest) bytes ∙ append_assoc reads.bytes front may.rest in
     let there : told ≡ front ++ may.rest = sym (same_Some _ _ is) ∙ ap (drop (length reads.bytes)) parts ∙ drop_front reads.bytes (front ++ may.rest) in
     let after : drop (length reads'.bytes) whole ≡ may.rest = ap (drop (length reads'.bytes)) may.begins ∙ drop_front reads'.bytes may.rest in
@@ -84,22 +84,22 @@ Takes-seen (assumed whole) left left' reads reads' n buffer short read takes fit
     )
 
 -- a read of nothing into a buffer with room finds the end of the input, by any view
-pub IsAtEnd-seen : (input : InputView) (left left' : Option (List ℕ)) (reads reads' : Reads) (buffer : List ℕ) → 0 < length buffer → reads' ≡ after_read reads 0 buffer
-    → IsAtEnd left → Fits input reads reads' → IsAtEnd (left_in input left reads)
+pub IsAtEnd-seen : (input : InputView) (left left' : Option (List ℕ)) (reads reads' : ReadSoFar) (buffer : List ℕ) → 0 < length buffer → reads' ≡ after_read reads 0 buffer
+    → IsAtEnd left → FitsInput input reads reads' → IsAtEnd (left_in input left reads)
 IsAtEnd-seen exposed left left' reads reads' buffer room read end fits = end
 IsAtEnd-seen (assumed whole) left left' reads reads' buffer room read end fits = λ told is.
     let may = fits.1 in
-    let none : may.rest ≡ [] = may.at_end (ap (λ (r : Reads). r.ended) read ∙ ended_true reads.ended (length buffer) room) in
-    let bytes : reads'.bytes ≡ reads.bytes = ap (λ (r : Reads). r.bytes) read ∙ append-nil reads.bytes in
+    let none : may.rest ≡ [] = may.at_end (ap (λ (r : ReadSoFar). r.ended) read ∙ ended_true reads.ended (length buffer) room) in
+    let bytes : reads'.bytes ≡ reads.bytes = ap (λ (r : ReadSoFar). r.bytes) read ∙ append-nil reads.bytes in
     sym (same_Some _ _ is) ∙ ap (drop (length reads.bytes)) (may.begins ∙ ap (λ l. l ++ may.rest) bytes) ∙ drop_front reads.bytes may.rest ∙ none
 
 -- a read that failed leaves the input, by any view
-pub Keeps-seen : (input : InputView) (left left' : Option (List ℕ)) (reads reads' : Reads) → reads' ≡ reads → Keeps left left' → Keeps (left_in input left reads) (left_in input left' reads')
+pub Keeps-seen : (input : InputView) (left left' : Option (List ℕ)) (reads reads' : ReadSoFar) → reads' ≡ reads → Keeps left left' → Keeps (left_in input left reads) (left_in input left' reads')
 Keeps-seen exposed left left' reads reads' same keeps = keeps
-Keeps-seen (assumed whole) left left' reads reads' same keeps = λ told is. ap (λ (r : Reads). Some (drop (length r.bytes) whole)) same ∙ is
+Keeps-seen (assumed whole) left left' reads reads' same keeps = λ told is. ap (λ (r : ReadSoFar). Some (drop (length r.bytes) whole)) same ∙ is
 
 -- a read's effect on what its source has returned and on the input, by its result
-module _ {E : Type 0} (left left' : Option (List ℕ)) (reads reads' : Reads) where
+module _ {E : Type 0} (left left' : Option (List ℕ)) (reads reads' : ReadSoFar) where
   pub TakesAfter-seen : (r : Result ℕ E) (a k : ℕ) (xs ys : List ℕ) → a ≤ length xs → IfOk r (λ n. n ≤ length ys) → IfOk r (λ n. reads' ≡ after_read reads n ys) → IfOk r (λ n. Takes left left' n ys)
       → IfOk r (λ n. ForEachInput left reads left' reads' (λ l l'. TakesAfter l l' n (take a xs) (take (a + n) (put_mid a k xs ys))))
   TakesAfter-seen (Ok n) a k xs ys inside short read takes = λ input fits.
@@ -117,17 +117,17 @@ module _ {E : Type 0} (left left' : Option (List ℕ)) (reads reads' : Reads) wh
   failed_seen (Ok n) same keeps = tt
   failed_seen (Err e) same keeps = λ input fits. Keeps-seen input left left' reads reads' same keeps
 
-module _ {E : Type 0} (reads reads' : Reads) where
-  pub ReadsOn-read : (r : Result ℕ E) (ys : List ℕ) → IfOk r (λ n. reads' ≡ after_read reads n ys) → OnErr r (reads' ≡ reads) → ReadsOn reads reads'
-  ReadsOn-read (Ok n) ys read same = record { more = take n ys; bytes = ap (λ (r : Reads). r.bytes) read }
-  ReadsOn-read (Err e) ys read same = ReadsOn-same reads reads' same
+module _ {E : Type 0} (reads reads' : ReadSoFar) where
+  pub ReadsMore-read : (r : Result ℕ E) (ys : List ℕ) → IfOk r (λ n. reads' ≡ after_read reads n ys) → OnErr r (reads' ≡ reads) → ReadsMore reads reads'
+  ReadsMore-read (Ok n) ys read same = record { more = take n ys; bytes = ap (λ (r : ReadSoFar). r.bytes) read }
+  ReadsMore-read (Err e) ys read same = ReadsMore-same reads reads' same
 
   pub going_read : (r : Result ℕ E) (ys : List ℕ) → IfOk r (λ n. reads' ≡ after_read reads n ys) → IfOk r (λ n. 0 < n → reads'.ended ≡ reads.ended)
   going_read (Ok zero) ys read = λ some. absurd (omega (arith, some))
-  going_read (Ok (suc n)) ys read = λ some. ap (λ (r : Reads). r.ended) read ∙ rw (eqb-suc-zero n) (or_false reads.ended)
+  going_read (Ok (suc n)) ys read = λ some. ap (λ (r : ReadSoFar). r.ended) read ∙ rw (eqb-suc-zero n) (or_false reads.ended)
   going_read (Err e) ys read = tt
 
   pub ended_read : (r : Result ℕ E) (ys : List ℕ) → 0 < length ys → IfOk r (λ n. reads' ≡ after_read reads n ys) → IfOk r (λ n. n ≡ 0 → reads'.ended ≡ true)
   ended_read (Ok n) ys some read = λ none.
-      ap (λ (r : Reads). r.ended) (subst (λ (m : ℕ). reads' ≡ after_read reads m ys) none read) ∙ ended_true reads.ended (length ys) some
+      ap (λ (r : ReadSoFar). r.ended) (subst (λ (m : ℕ). reads' ≡ after_read reads m ys) none read) ∙ ended_true reads.ended (length ys) some
   ended_read (Err e) ys some read = tt

@@ -3,7 +3,7 @@ use Rattle.std.proofs.Common.{◌≡◌, inl, inr, ℕ, List, [], ◌∷◌, ◌
 use Rattle.std.specs.Prelude.{Option}
 use Rattle.hippo_io.specs.Lines.{LineText, lines}
 use Rattle.hippo_io.specs.Position.{Position}
-use Rattle.hippo_io.specs.Inputs.{Reads, InputView, exposed, assumed, left_in, FitsReading}
+use Rattle.hippo_io.specs.Inputs.{ReadSoFar, InputView, exposed, assumed, left_in, FitsReading}
 use Rattle.hippo_io.specs.HandingOut.{HasHandedOut, NextLine, ReadsNextLine}
 use Rattle.hippo_io.specs.declared.lines.Line.{Line}
 use Rattle.hippo_io.specs.declared.lines.Line.TheVariants.{End}
@@ -35,7 +35,7 @@ still reader left left' other over plain = record {
   progress = plain.progress;
 }
 
-pub NextLine-seen : (view : InputView) (before after : Position) (left left' : Option (List ℕ)) (reads reads' : Reads) (result : Result Line LineFault)
+pub NextLine-seen : (view : InputView) (before after : Position) (left left' : Option (List ℕ)) (reads reads' : ReadSoFar) (result : Result Line LineFault)
     → ReadsNextLine before after left reads left' reads' result → before.failure ≡ None → (IsTrue before.ended → reads' ≡ reads)
     → FitsReading view before.ended reads reads' → NextLine before after (left_in view left reads) (left_in view left' reads') result
 NextLine-seen exposed before after left left' reads reads' result next unfailed same fits = next.next exposed tt
@@ -46,6 +46,6 @@ NextLine-seen (assumed whole) before after left left' reads reads' result next u
     let there : NextLine before before left left' (Ok End) =
     subst (λ (r : Result Line LineFault). NextLine before before left left' r) end.0 (subst (λ (p : Position). NextLine before p left left' result) end.1 plain) in
     let other = left_in (assumed whole) left reads in
-    subst (λ (r : Reads). NextLine before after other (left_in (assumed whole) left' r) result) (sym (same over))
+    subst (λ (r : ReadSoFar). NextLine before after other (left_in (assumed whole) left' r) result) (sym (same over))
     (subst (λ (p : Position). NextLine before p other other result) (sym end.1)
     (subst (λ (r : Result Line LineFault). NextLine before before other other r) (sym end.0) (still before left left' other over there)))

@@ -7,7 +7,7 @@ use Rattle.hippo_io.specs.declared.lines.Line.{Line}
 use Rattle.hippo_io.specs.declared.lines.Line.TheVariants.{End}
 use Rattle.hippo_io.specs.declared.lines.LineFault.{LineFault}
 use Rattle.hippo_io.specs.declared.lines.LineFault.TheVariants.{TooMuch}
-use Rattle.hippo_io.specs.Inputs.{Reads, ForEachInput, ReadsOn}
+use Rattle.hippo_io.specs.Inputs.{ReadSoFar, ForEachInput, ReadsMore}
 use Rattle.hippo_io.specs.Position.{Position}
 
 -- the most bytes that are read
@@ -83,11 +83,11 @@ pub record NextLine (before after : Position) (left_before left_after : Option (
 
 -- The effect of a call for the next line on a reader and its source: it is the next line whatever
 -- the input may be, and the source has ended once the reader has.
-pub record ReadsNextLine (before after : Position) (left : Option (List ℕ)) (reads : Reads)
-    (left' : Option (List ℕ)) (reads' : Reads) (result : Result Line LineFault) : Type 0 where
+pub record ReadsNextLine (before after : Position) (left : Option (List ℕ)) (reads : ReadSoFar)
+    (left' : Option (List ℕ)) (reads' : ReadSoFar) (result : Result Line LineFault) : Type 0 where
   pub next : ForEachInput left reads left' reads'
       (λ left left'. NextLine before after left left' result)
-  pub on : ReadsOn reads reads'
+  pub on : ReadsMore reads reads'
   pub going : IsFalse after.ended → after.failure ≡ None → reads'.ended ≡ reads.ended
   pub over : IsTrue after.ended → after.failure ≡ None → IsFalse before.ended
       → reads'.ended ≡ true

@@ -4,7 +4,7 @@ use Rattle.hippo_values.specs.Limits.{line_limit}
 use Rattle.hippo_io.specs.Lines.{LineText, too_long_line, line_feed, feeds}
 use Rattle.hippo_io.specs.Position.{Position}
 use Rattle.hippo_io.specs.HandingOut.{input_limit, bytes_handed_out, HasHandedOut, HasGivenUp}
-use Rattle.hippo_io.specs.Inputs.{Reads}
+use Rattle.hippo_io.specs.Inputs.{ReadSoFar}
 use Rattle.hippo_io.specs.Told.{TakesAfter}
 use Rattle.hippo_io.specs.declared.lines.Found.{Found}
 use Rattle.hippo_io.specs.declared.lines.Found.TheVariants.{Whole, Rest, Skipped}
@@ -96,12 +96,12 @@ FindsNext before after left_before left_after Skipped =
     FindsSkipped before after left_before left_after
 
 -- the source has ended if the reader has, and else as it had before
-pub record EndsTogether (after : Position) (reads reads' : Reads) : Type 0 where
+pub record EndsTogether (after : Position) (reads reads' : ReadSoFar) : Type 0 where
   pub going : IsFalse after.ended → reads'.ended ≡ reads.ended
   pub over : IsTrue after.ended → reads'.ended ≡ true
 
 -- whether the source has ended, by what the reader found
-abbrev pub FindsEnd : Found → Position → Reads → Reads → Type 0
+abbrev pub FindsEnd : Found → Position → ReadSoFar → ReadSoFar → Type 0
 FindsEnd (Whole n) after reads reads' = reads'.ended ≡ reads.ended
 FindsEnd Rest after reads reads' = reads'.ended ≡ true
 FindsEnd Skipped after reads reads' = EndsTogether after reads reads'

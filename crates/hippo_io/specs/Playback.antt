@@ -2,7 +2,7 @@
 use Rattle.std.specs.Prelude.{ℕ, ◌+◌, Bool, ◌||◌, List, length, nat_lt, ◌==◌, if◌then◌else◌}
 use Rattle.std.specs.List.{list_any}
 use Rattle.hippo_io.specs.Faults.{next_count}
-use Rattle.hippo_io.specs.Inputs.{Reads}
+use Rattle.hippo_io.specs.Inputs.{ReadSoFar}
 
 -- the calls that fail, counted from 1; the number of calls made; the number of faults
 pub record Tally : Type 0 where
@@ -29,7 +29,7 @@ after_fault tally = record tally { faults = next_count tally.faults }
 -- a source: its remaining bytes, and what its reads have returned
 pub record Playback : Type 0 where
   pub left : List ℕ
-  pub reads : Reads
+  pub reads : ReadSoFar
   pub tally : Tally
 
 -- a sink: the bytes written, and the most that it can hold

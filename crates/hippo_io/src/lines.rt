@@ -7,7 +7,7 @@ ghost use Rattle.hippo_values.specs.Limits.{line_limit};
 ghost use Rattle.hippo_io.specs.Lines.{line_of, line_feed, carriage_return, feeds};
 ghost use Rattle.hippo_io.specs.LineTexts.{line_text};
 ghost use Rattle.hippo_io.specs.Moves.{BeginsWithLine};
-ghost use Rattle.hippo_io.specs.Inputs.{ForEachInput, ReadsOn};
+ghost use Rattle.hippo_io.specs.Inputs.{ForEachInput, ReadsMore};
 ghost use Rattle.hippo_io.specs.Told.{Keeps, IsAtEnd, TakesAfter};
 
 use crate::source::{Failed, Source};
@@ -109,7 +109,7 @@ fn read_after<S: Source>(
         (S.left source.new) (S.reads source.new) (λ left left'. IsAtEnd left)) }
     ensures failed { OnErr result (ForEachInput (S.left source.old) (S.reads source.old)
         (S.left source.new) (S.reads source.new) (λ left left'. Keeps left left')) }
-    ensures on { ReadsOn (S.reads source.old) (S.reads source.new) }
+    ensures on { ReadsMore (S.reads source.old) (S.reads source.new) }
     ensures going { IfOk result (λ n. 0 < n
         → (S.reads source.new).ended ≡ (S.reads source.old).ended) }
     ensures ended { IfOk result (λ n. n ≡ 0 → (S.reads source.new).ended ≡ true) }
@@ -224,7 +224,7 @@ impl LineReader {
         ensures failed { IfErr result (λ fault. ForEachInput (S.left source.old)
             (S.reads source.old) (S.left source.new) (S.reads source.new)
             (λ left left'. FailsToRefill self.old self.new left left' fault)) }
-        ensures on { ReadsOn (S.reads source.old) (S.reads source.new) }
+        ensures on { ReadsMore (S.reads source.old) (S.reads source.new) }
         ensures going { IfOk result (λ n. 0 < n
             → (S.reads source.new).ended ≡ (S.reads source.old).ended) }
         ensures ended { IfOk result (λ n. n ≡ 0 → (S.reads source.new).ended ≡ true) }
@@ -268,7 +268,7 @@ impl LineReader {
         ensures gives_up { OnErr result (ForEachInput (S.left source.old) (S.reads source.old)
             (S.left source.new) (S.reads source.new)
             (λ left left'. GivesUp self.old self.new left left')) }
-        ensures on { ReadsOn (S.reads source.old) (S.reads source.new) }
+        ensures on { ReadsMore (S.reads source.old) (S.reads source.new) }
         ensures going { OnOk result (EndsTogether self.new (S.reads source.old)
             (S.reads source.new)) }
         ensures failure { self.new.failure ≡ result_err result }
@@ -302,7 +302,7 @@ impl LineReader {
         ensures gives_up { OnErr result (ForEachInput (S.left source.old) (S.reads source.old)
             (S.left source.new) (S.reads source.new)
             (λ left left'. GivesUp self.old self.new left left')) }
-        ensures on { ReadsOn (S.reads source.old) (S.reads source.new) }
+        ensures on { ReadsMore (S.reads source.old) (S.reads source.new) }
         ensures going { IfOk result (λ found. FindsEnd found self.new (S.reads source.old)
             (S.reads source.new)) }
         ensures failure { self.new.failure ≡ result_err result }

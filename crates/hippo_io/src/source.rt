@@ -1,7 +1,7 @@
 //! Where bytes are read.
 ghost use Rattle.std.specs.Prelude.{◌≡◌, ℕ, ◌<◌, ◌≤◌, ◌&&◌, ◌||◌, ◌==◌, nat_lt, List, Option, length, IfOk, OnOk, OnErr};
 ghost use Rattle.hippo_io.specs.Faults.{HasRisen};
-ghost use Rattle.hippo_io.specs.Inputs.{Reads, after_read};
+ghost use Rattle.hippo_io.specs.Inputs.{ReadSoFar, after_read};
 ghost use Rattle.hippo_io.specs.Told.{Keeps, Takes, IsAtEnd};
 
 /// A read or a write failed.
@@ -14,7 +14,7 @@ pub trait Source {
     ghost left: { Self → Option (List ℕ) };
 
     // What its reads have returned so far. This is always known.
-    ghost reads: { Self → Reads };
+    ghost reads: { Self → ReadSoFar };
 
     // How often a read failed; the count saturates at its largest value.
     ghost faults: { Self → ℕ };

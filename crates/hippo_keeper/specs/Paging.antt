@@ -27,10 +27,10 @@ page_entries tables bodies start (head ∷ rest) =
 
 -- each table index is below this count, no body ends before it begins, and the last body ends at
 -- the end
-abbrev pub AreWithin : ℕ → ℕ → ℕ → List Head → Type 0
-AreWithin tables size start [] = start ≡ size
-AreWithin tables size start (head ∷ rest) =
-    (head.table < tables) × ((start ≤ head.end) × AreWithin tables size head.end rest)
+abbrev pub AreWithinPage : ℕ → ℕ → ℕ → List Head → Type 0
+AreWithinPage tables size start [] = start ≡ size
+AreWithinPage tables size start (head ∷ rest) =
+    (head.table < tables) × ((start ≤ head.end) × AreWithinPage tables size head.end rest)
 
 -- the entries of some pages, one page after another
 abbrev pub paged : List Store → Store

@@ -1,7 +1,7 @@
 //! A page of entries: their heads, their bodies one after another, and each table name once.
 ghost use Rattle.std.specs.Prelude.{◌≡◌, ◌+◌, ◌-◌, ◌<◌, ◌≤◌, true, [], ◌∷◌, ◌++◌, length, take, drop, position, slice_get, bytes_eq, Some, IfOk, OnOk, OnErr};
 ghost use Rattle.hippo_keeper.specs.Keeping.{last_number};
-ghost use Rattle.hippo_keeper.specs.Paging.{page_entries, AreWithin, with_picked};
+ghost use Rattle.hippo_keeper.specs.Paging.{page_entries, AreWithinPage, with_picked};
 
 use crate::head::Head;
 use crate::selection::ReadQuery;
@@ -29,11 +29,11 @@ impl Model for Page {
 
     ghost Value = { Store };
 
-    ghost use Rattle.hippo_keeper.specs.Paging.{page_entries, AreWithin};
+    ghost use Rattle.hippo_keeper.specs.Paging.{page_entries, AreWithinPage};
 
     ghost view = { λ page. page_entries page.tables page.bodies.items 0 page.heads };
 
-    ghost invariant = { λ page. AreWithin (length page.tables) (length page.bodies.items) 0
+    ghost invariant = { λ page. AreWithinPage (length page.tables) (length page.bodies.items) 0
         page.heads };
 }
 
@@ -119,7 +119,7 @@ fn pick(
     read_query: &ReadQuery<'_>,
     list: &mut StoredList,
 ) -> Result<(), Memory>
-    requires { AreWithin (length tables.now) (length bodies.now) 0 heads.now }
+    requires { AreWithinPage (length tables.now) (length bodies.now) 0 heads.now }
     ensures { OnOk result (list.new ≡ with_picked read_query.now list.old
         (page_entries tables.now bodies.now 0 heads.now)) }
 {

@@ -2,7 +2,7 @@
 ghost use Rattle.std.specs.Prelude.{◌≡◌, ◌≢◌, ℕ, ◌+◌, ◌<◌, ◌≤◌, List, [], Some, None, option_map, IfNone, IfOk, IsTrue, IsFalse, MatchOption, true, false};
 ghost use Rattle.hippo_io.specs.Faults.{HasRisen};
 ghost use Rattle.hippo_io.specs.HandingOut.{at_beginning, bytes_handed_out, input_limit, HasHandedOut};
-ghost use Rattle.hippo_io.specs.Inputs.{ForEachInput, ForEachReading, ReadsOn};
+ghost use Rattle.hippo_io.specs.Inputs.{ForEachInput, ForEachReading, ReadsMore};
 ghost use Rattle.hippo_io.specs.LineTexts.{line_text};
 ghost use Rattle.hippo_model.specs.Terms.{History};
 ghost use Rattle.hippo_model.specs.Versions.{versions};
@@ -215,7 +215,7 @@ impl Serving {
             (outside left' (K.written sink.new) (P.state keeper.new) steps.new))
             (λ ending. LinesEnd ending setting job.now history before
             (outside left' (K.written sink.new) (P.state keeper.new) steps.new))) }
-        ensures on { ReadsOn (S.reads source.old) (S.reads source.new) }
+        ensures on { ReadsMore (S.reads source.old) (S.reads source.new) }
         ensures still { IsTrue self.old.reader.ended → (S.reads source.new ≡ S.reads source.old)
             × (self.new.reader ≡ self.old.reader) }
         ensures going { IfNone result (IsFalse self.new.reader.ended

@@ -1,6 +1,6 @@
 -- The read filled a part of the buffer.
 use Rattle.std.proofs.Common.{◌+◌, ◌-◌, ◌<◌, length, take, drop, length-take, length-drop, arith}
-use Rattle.hippo_io.proofs.InputLemmas.{TakesAfter-seen, end_seen, failed_seen, ReadsOn-read, going_read, ended_read}
+use Rattle.hippo_io.proofs.InputLemmas.{TakesAfter-seen, end_seen, failed_seen, ReadsMore-read, going_read, ended_read}
 use Rattle.hippo_io.proofs.lines.read_after.Given.{Over}
 use Rattle.hippo_io.proofs.lines.read_after.Goals as goal
 
@@ -20,7 +20,7 @@ pub returns-clause-failed : goal.returns-clause-failed
 returns-clause-failed g c = failed_seen _ _ _ _ c.read.result c.read.ensures.unread c.read.ensures.failed
 
 pub returns-clause-on : goal.returns-clause-on
-returns-clause-on g c = ReadsOn-read _ _ c.read.result c.read.new.buffer c.read.ensures.returned c.read.ensures.unread
+returns-clause-on g c = ReadsMore-read _ _ c.read.result c.read.new.buffer c.read.ensures.returned c.read.ensures.unread
 
 pub returns-clause-going : goal.returns-clause-going
 returns-clause-going g c = going_read _ _ c.read.result c.read.new.buffer c.read.ensures.returned

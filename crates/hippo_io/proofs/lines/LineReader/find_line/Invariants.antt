@@ -4,15 +4,15 @@ use Rattle.std.specs.Prelude.{Option}
 use Rattle.hippo_values.specs.Limits.{line_limit}
 use Rattle.hippo_io.specs.Lines.{feeds}
 use Rattle.hippo_io.specs.Position.{Position}
-use Rattle.hippo_io.specs.Inputs.{Reads, ForEachInput, ReadsOn}
+use Rattle.hippo_io.specs.Inputs.{ReadSoFar, ForEachInput, ReadsMore}
 use Rattle.hippo_io.specs.HandingOut.{bytes_handed_out}
 use Rattle.hippo_io.specs.Moves.{IsGoing, KeepsHandedOut}
 use Rattle.hippo_io.proofs.lines.LineReader.find_line.Given as goal
 
-pub record IsSearching (before reader : Position) (left_before : Option (List ℕ)) (reads_before : Reads) (left : Option (List ℕ)) (reads : Reads) (faults_before faults_now searched : ℕ) : Type 0 where
+pub record IsSearching (before reader : Position) (left_before : Option (List ℕ)) (reads_before : ReadSoFar) (left : Option (List ℕ)) (reads : ReadSoFar) (faults_before faults_now searched : ℕ) : Type 0 where
   pub going : IsGoing reader
   pub kept : ForEachInput left_before reads_before left reads (λ l l'. KeepsHandedOut before reader l l')
-  pub on : ReadsOn reads_before reads
+  pub on : ReadsMore reads_before reads
   pub ended : reads.ended ≡ reads_before.ended
   pub same : bytes_handed_out reader ≡ bytes_handed_out before
   pub within : searched ≤ length reader.waiting

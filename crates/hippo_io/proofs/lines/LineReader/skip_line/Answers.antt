@@ -5,7 +5,7 @@ use Rattle.hippo_io.specs.Inputs.{exposed}
 use Rattle.hippo_io.specs.Lines.{feeds}
 use Rattle.hippo_io.specs.Moves.{BeginsWithLine}
 use Rattle.hippo_io.proofs.HandedLemmas.{IsSkipping-begun, IsSkipping-emptied, IsSkipping-refilled, HasGivenUp-skipping, HasHandedOut-skipped, HasHandedOut-skipped_last, on_err}
-use Rattle.hippo_io.proofs.InputLemmas.{ReadsOn-none, ReadsOn-then, Fits-before, Fits-after}
+use Rattle.hippo_io.proofs.InputLemmas.{ReadsMore-none, ReadsMore-then, FitsInput-before, FitsInput-after}
 use Rattle.hippo_io.proofs.lines.LineReader.skip_line.Goals as goal
 
 pub loop-self-init : goal.loop-self-init
@@ -14,7 +14,7 @@ loop-self-init g c = record {
   clear = c.requires.clear;
   skipping = λ view fits input handed h. IsSkipping-begun input handed _ _ c.requires.going c.requires.clear c.requires.long h;
   later = omega arith;
-  on = ReadsOn-none (g.S.Source.reads c.args.source.now);
+  on = ReadsMore-none (g.S.Source.reads c.args.source.now);
   ended = refl;
   faults = refl;
 }
@@ -22,25 +22,25 @@ loop-self-init g c = record {
 pub returns-in_err-refill-clause-gives_up : goal.returns-in_err-refill-clause-gives_up
 returns-in_err-refill-clause-gives_up g c =
     on_err c.from_residual.result (λ view fits input handed h.
-    let so_far = Fits-before view _ _ _ c.loop-self.invariant.ended c.refill.ensures.on fits in
-    let further = Fits-after view _ _ _ c.loop-self.invariant.ended fits in
+    let so_far = FitsInput-before view _ _ _ c.loop-self.invariant.ended c.refill.ensures.on fits in
+    let further = FitsInput-after view _ _ _ c.loop-self.invariant.ended fits in
     let inside = IsSkipping-emptied input handed c.loop-self.self c.skip_waiting.new.self _ c.loop-self.invariant.clear c.skip_waiting.ensures (c.loop-self.invariant.skipping view so_far input handed h) in
     HasGivenUp-skipping input handed c.skip_waiting.new.self c.refill.new.self _ _ _ (ap (λ p. feeds p.waiting) c.skip_waiting.ensures) (c.in_err-refill.ensures.failed view further) inside)
 
 pub returns-in_err-refill-clause-on : goal.returns-in_err-refill-clause-on
-returns-in_err-refill-clause-on g c = ReadsOn-then _ _ _ c.loop-self.invariant.on c.refill.ensures.on
+returns-in_err-refill-clause-on g c = ReadsMore-then _ _ _ c.loop-self.invariant.on c.refill.ensures.on
 
 pub returns-then-branch-eq0-clause-skipped : goal.returns-then-branch-eq0-clause-skipped
 returns-then-branch-eq0-clause-skipped g c = λ view fits input handed h.
-    let so_far = Fits-before view _ _ _ c.loop-self.invariant.ended c.refill.ensures.on fits in
-    let further = Fits-after view _ _ _ c.loop-self.invariant.ended fits in
+    let so_far = FitsInput-before view _ _ _ c.loop-self.invariant.ended c.refill.ensures.on fits in
+    let further = FitsInput-after view _ _ _ c.loop-self.invariant.ended fits in
     let inside = IsSkipping-emptied input handed c.loop-self.self c.skip_waiting.new.self _ c.loop-self.invariant.clear c.skip_waiting.ensures (c.loop-self.invariant.skipping view so_far input handed h) in
     let end = c.in_ok-refill.ensures.end c.if-branch-eq0.true in
     HasHandedOut-skipped_last input handed c.skip_waiting.new.self c.refill.new.self c.end.new.self _ _ c.in_ok-refill.field-0 (c.in_ok-refill.ensures.more view further)
     (end.0, end.1 view further) (ap (λ p. p.waiting) c.skip_waiting.ensures) c.end.ensures inside
 
 pub returns-then-branch-eq0-clause-on : goal.returns-then-branch-eq0-clause-on
-returns-then-branch-eq0-clause-on g c = ReadsOn-then _ _ _ c.loop-self.invariant.on c.refill.ensures.on
+returns-then-branch-eq0-clause-on g c = ReadsMore-then _ _ _ c.loop-self.invariant.on c.refill.ensures.on
 
 pub returns-then-branch-eq0-clause-going : goal.returns-then-branch-eq0-clause-going
 returns-then-branch-eq0-clause-going g c = record {
@@ -50,8 +50,8 @@ returns-then-branch-eq0-clause-going g c = record {
 
 pub returns-in-Some-clause-skipped : goal.returns-in-Some-clause-skipped
 returns-in-Some-clause-skipped g c = λ view fits input handed h.
-    let so_far = Fits-before view _ _ _ c.loop-self.invariant.ended c.refill.ensures.on fits in
-    let further = Fits-after view _ _ _ c.loop-self.invariant.ended fits in
+    let so_far = FitsInput-before view _ _ _ c.loop-self.invariant.ended c.refill.ensures.on fits in
+    let further = FitsInput-after view _ _ _ c.loop-self.invariant.ended fits in
     let more = c.in_ok-refill.ensures.more view further in
     let inside = IsSkipping-emptied input handed c.loop-self.self c.skip_waiting.new.self _ c.loop-self.invariant.clear c.skip_waiting.ensures (c.loop-self.invariant.skipping view so_far input handed h) in
     let line : BeginsWithLine c.refill.new.self.waiting c.in-Some.place = subst (λ l. BeginsWithLine l c.in-Some.place) c.waiting.ensures.bytes c.in-Some.ensures in
@@ -59,7 +59,7 @@ returns-in-Some-clause-skipped g c = λ view fits input handed h.
     (IsSkipping-refilled input handed c.skip_waiting.new.self c.refill.new.self _ _ c.in_ok-refill.field-0 more inside)
 
 pub returns-in-Some-clause-on : goal.returns-in-Some-clause-on
-returns-in-Some-clause-on g c = ReadsOn-then _ _ _ c.loop-self.invariant.on c.refill.ensures.on
+returns-in-Some-clause-on g c = ReadsMore-then _ _ _ c.loop-self.invariant.on c.refill.ensures.on
 
 pub returns-in-Some-clause-going : goal.returns-in-Some-clause-going
 returns-in-Some-clause-going g c =
@@ -76,12 +76,12 @@ loop-self-preserved g c =
       going = more.going;
       clear = ap feeds (sym c.waiting.ensures.bytes) ∙ c.in_default.ensures;
       skipping = λ view fits input handed h.
-          let so_far = Fits-before view _ _ _ c.loop-self.invariant.ended c.refill.ensures.on fits in
-          let further = Fits-after view _ _ _ c.loop-self.invariant.ended fits in
+          let so_far = FitsInput-before view _ _ _ c.loop-self.invariant.ended c.refill.ensures.on fits in
+          let further = FitsInput-after view _ _ _ c.loop-self.invariant.ended fits in
           let inside = IsSkipping-emptied input handed c.loop-self.self c.skip_waiting.new.self _ c.loop-self.invariant.clear c.skip_waiting.ensures (c.loop-self.invariant.skipping view so_far input handed h) in
           IsSkipping-refilled input handed c.skip_waiting.new.self c.refill.new.self _ _ c.in_ok-refill.field-0 (c.in_ok-refill.ensures.more view further) inside;
       later = omega (arith, c.loop-self.invariant.later, more.taken, ap (λ p. p.taken) c.skip_waiting.ensures);
-      on = ReadsOn-then _ _ _ c.loop-self.invariant.on c.refill.ensures.on;
+      on = ReadsMore-then _ _ _ c.loop-self.invariant.on c.refill.ensures.on;
       ended = c.in_ok-refill.ensures.going (omega (arith, c.if-branch-eq0.false)) ∙ c.loop-self.invariant.ended;
       faults = c.in_ok-refill.ensures.unfailed (λ e. cc) ∙ c.loop-self.invariant.faults;
     }

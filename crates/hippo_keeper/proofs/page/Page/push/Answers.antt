@@ -1,14 +1,14 @@
 -- One more name changes no entry; one more head and body add one entry.
 use Rattle.std.proofs.Common.{◌≡◌, ◌∙◌, ◌+◌, [], ◌∷◌, ◌++◌, length, slice_get, Some}
 use Rattle.hippo_keeper.specs.Paging.{page_entries}
-use Rattle.hippo_keeper.proofs.PageLemmas.{front_length, AreWithin-named, page_entries-named, page_entries-push, AreWithin-push}
+use Rattle.hippo_keeper.proofs.PageLemmas.{front_length, AreWithinPage-named, page_entries-named, page_entries-push, AreWithinPage-push}
 use Rattle.hippo_keeper.proofs.Results.{on_err_from}
 use Rattle.hippo_keeper.proofs.page.Page.push.Goals as goal
 
 pub invariant_of-self : goal.invariant_of-self
 invariant_of-self c =
     let inside = c.self.inside in
-    AreWithin-named (length inside.tables) (length c.table_in.new.tables) (length inside.bodies.items) 0 inside.heads (front_length inside.tables c.table_in.new.tables c.table_in.ensures.kept) c.self.invariant
+    AreWithinPage-named (length inside.tables) (length c.table_in.new.tables) (length inside.bodies.items) 0 inside.heads (front_length inside.tables c.table_in.new.tables c.table_in.ensures.kept) c.self.invariant
 
 pub returns-in_err-table-clause-err : goal.returns-in_err-table-clause-err
 returns-in_err-table-clause-err c =
@@ -19,7 +19,7 @@ pub invariant_of-self-in_err-put : goal.invariant_of-self-in_err-put
 invariant_of-self-in_err-put c =
     let inside = c.self.inside in
     let tables = c.table_in.new.tables in
-    let known = AreWithin-named (length inside.tables) (length tables) (length inside.bodies.items) 0 inside.heads (front_length inside.tables tables c.table_in.ensures.kept) c.self.invariant in
+    let known = AreWithinPage-named (length inside.tables) (length tables) (length inside.bodies.items) 0 inside.heads (front_length inside.tables tables c.table_in.ensures.kept) c.self.invariant in
     rw (c.in_err-put.ensures.same_heads, c.in_err-put.ensures.same_bodies) known
 
 pub returns-in_err-put-clause-err : goal.returns-in_err-put-clause-err
@@ -35,7 +35,7 @@ invariant_of-self-2 c =
     let entry = c.args.entry.now in
     let end : c.of-head.result.end ≡ length inside.bodies.items + length entry.body = cc (c.of-head.ensures.end, c.in_ok-end.ensures, c.as_slice.ensures.value, c.as_slice-body.ensures) in
     let named : slice_get c.table_in.new.tables c.of-head.result.table ≡ Some entry.table = cc (c.of-head.ensures.table, c.in_ok-table.ensures.place, c.as_str.ensures) in
-    rw (c.in_ok-put.ensures.heads, c.in_ok-put.ensures.bodies, c.as_slice-body.ensures) (AreWithin-push inside.tables c.table_in.new.tables inside.bodies.items entry.body entry.table c.of-head.result inside.heads c.table_in.ensures.kept c.self.invariant end named)
+    rw (c.in_ok-put.ensures.heads, c.in_ok-put.ensures.bodies, c.as_slice-body.ensures) (AreWithinPage-push inside.tables c.table_in.new.tables inside.bodies.items entry.body entry.table c.of-head.result inside.heads c.table_in.ensures.kept c.self.invariant end named)
 
 pub returns-clause-ok : goal.returns-clause-ok
 returns-clause-ok c =

@@ -2,7 +2,7 @@
 use Rattle.std.proofs.Common.{◌≡◌, ◌≤◌, ◌∙◌, [], Some, None, Bool, true, false, IsTrue, IsFalse, refl, sym, ap, subst, arith}
 use Rattle.hippo_io.specs.HandingOut.{HasHandedOut, input_limit, bytes_handed_out}
 use Rattle.hippo_io.specs.Inputs.{left_in}
-use Rattle.hippo_io.proofs.InputLemmas.{ReadsOn-none, ReadsOn-then, Fits-line}
+use Rattle.hippo_io.proofs.InputLemmas.{ReadsMore-none, ReadsMore-then, FitsInput-line}
 use Rattle.hippo_io.specs.Position.{Position}
 use Rattle.hippo_keeper.specs.declared.faults.KeeperFault.{KeeperFault}
 use Rattle.hippo_keeper.proofs.CallLemmas.{IsAfterCall-none, IsAfterCall-then}
@@ -29,7 +29,7 @@ loop-ending-init g c = record {
   sink_faults = refl;
   call = IsAfterCall-none (well KeeperFault) (g.P.Keeper.state c.serve_first.new.keeper) refl c.in_default.ensures.status.ready;
   at_work = c.in_default.ensures.status;
-  on = ReadsOn-none (g.S.Source.reads c.args.source.now);
+  on = ReadsMore-none (g.S.Source.reads c.args.source.now);
   going = λ going. refl;
   reading = λ view fits input reading. reading;
   served = λ tells view fits setting history before served. served;
@@ -44,7 +44,7 @@ returns-in-Some-serve_line-clause-call g c =
 
 pub returns-in-Some-serve_line-clause-read : goal.returns-in-Some-serve_line-clause-read
 returns-in-Some-serve_line-clause-read g c = λ view fits input is.
-    let both = Fits-line view c.loop-ending.self.reader.ended (g.S.Source.reads c.args.source.now) (g.S.Source.reads c.loop-ending.source) (g.S.Source.reads c.serve_line.new.source)
+    let both = FitsInput-line view c.loop-ending.self.reader.ended (g.S.Source.reads c.args.source.now) (g.S.Source.reads c.loop-ending.source) (g.S.Source.reads c.serve_line.new.source)
     c.loop-ending.invariant.going (λ over. (c.serve_line.ensures.still over).0) c.serve_line.ensures.on fits in
     let left = left_in view (g.S.Source.left c.args.source.now) (g.S.Source.reads c.args.source.now) in
     c.in-Some-serve_line.ensures.read view both.1 input (c.loop-ending.invariant.reading view both.0 input
@@ -53,7 +53,7 @@ returns-in-Some-serve_line-clause-read g c = λ view fits input is.
 
 pub returns-in-Some-serve_line-clause-ends : goal.returns-in-Some-serve_line-clause-ends
 returns-in-Some-serve_line-clause-ends g c = λ tells view fits setting history holds world keeps start counted.
-    let both = Fits-line view c.loop-ending.self.reader.ended (g.S.Source.reads c.args.source.now) (g.S.Source.reads c.loop-ending.source) (g.S.Source.reads c.serve_line.new.source)
+    let both = FitsInput-line view c.loop-ending.self.reader.ended (g.S.Source.reads c.args.source.now) (g.S.Source.reads c.loop-ending.source) (g.S.Source.reads c.serve_line.new.source)
     c.loop-ending.invariant.going (λ over. (c.serve_line.ensures.still over).0) c.serve_line.ensures.on fits in
     let left = left_in view (g.S.Source.left c.args.source.now) (g.S.Source.reads c.args.source.now) in
     let here = c.in-Some-serve_line.ensures.call.told tells in
@@ -93,12 +93,12 @@ loop-ending-preserved g c =
       call = IsAfterCall-then false (well KeeperFault) (part_as_call None) (g.P.Keeper.state c.serve_first.new.keeper) (g.P.Keeper.state c.loop-ending.keeper) (g.P.Keeper.state c.serve_line.new.keeper) refl
           so_far.call next.call;
       at_work = next.at_work;
-      on = ReadsOn-then _ _ _ so_far.on c.serve_line.ensures.on;
+      on = ReadsMore-then _ _ _ so_far.on c.serve_line.ensures.on;
       going = λ going. next.going going ∙ so_far.going not_over;
       reading = λ view fits input reading.
-          let both = Fits-line view c.loop-ending.self.reader.ended start now after so_far.going still c.serve_line.ensures.on fits in
+          let both = FitsInput-line view c.loop-ending.self.reader.ended start now after so_far.going still c.serve_line.ensures.on fits in
           next.read view both.1 input (so_far.reading view both.0 input reading);
       served = λ tells view fits setting history before served.
-          let both = Fits-line view c.loop-ending.self.reader.ended start now after so_far.going still c.serve_line.ensures.on fits in
+          let both = FitsInput-line view c.loop-ending.self.reader.ended start now after so_far.going still c.serve_line.ensures.on fits in
           next.served tells view both.1 setting history before (so_far.served (next.call.told tells) view both.0 setting history before served);
     }

@@ -2,7 +2,7 @@
 use Rattle.std.proofs.Common.{◌≡◌, ◌-◌, ◌≤◌, None, true, false, IsFalse}
 use Rattle.hippo_values.specs.Texts.{Txt}
 use Rattle.hippo_io.specs.HandingOut.{bytes_handed_out, input_limit}
-use Rattle.hippo_io.specs.Inputs.{ForEachInput, ReadsOn}
+use Rattle.hippo_io.specs.Inputs.{ForEachInput, ReadsMore}
 use Rattle.hippo_model.specs.Terms.{History}
 use Rattle.hippo_keeper.specs.Keeping.{IsAfterCall}
 use Rattle.hippo_engine.specs.Carrying.{AtWork}
@@ -20,7 +20,7 @@ invariant-loop-ending g l = record {
   sink_faults : g.K.Sink.faults l.sink ≡ g.K.Sink.faults l.initial.sink;
   call : IsAfterCall true false (part_as_call None) (g.P.Keeper.state l.initial.keeper) (g.P.Keeper.state l.keeper);
   at_work : AtWork l.self.engine (g.P.Keeper.state l.keeper);
-  on : ReadsOn (g.S.Source.reads l.initial.source) (g.S.Source.reads l.source);
+  on : ReadsMore (g.S.Source.reads l.initial.source) (g.S.Source.reads l.source);
   going : IsFalse l.self.reader.ended → (g.S.Source.reads l.source).ended ≡ (g.S.Source.reads l.initial.source).ended;
   reading : ForEachInput (g.S.Source.left l.initial.source) (g.S.Source.reads l.initial.source) (g.S.Source.left l.source) (g.S.Source.reads l.source)
       (λ left left'. (input : Txt) → IsHandingOut input l.initial.self.reader left → IsHandingOut input l.self.reader left');
