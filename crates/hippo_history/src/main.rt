@@ -11,6 +11,7 @@ use hippo_io::{Sink, Source};
 use hippo_program_start::{Ended, Host, Program, start};
 use hippo_sqlite_files::FileKeeper;
 use hippo_values::Txt;
+use sqlite_disk::{Start, Unknown};
 use std::sync::ledger::Ledger;
 
 // The program over stores in files. Its exit status is that of `history_top`: 2 only for words that
@@ -23,15 +24,22 @@ impl Program for History {
         AnswersAmong showing_statuses (asked_of words) status
         × ReportsFault 5 status before.writes after.writes };
 
-    fn call<S: Source, K: Sink, L: Ledger>(words: &[Txt], host: &mut Host<S, K, L>) -> u8 {
+    fn call<S: Source, K: Sink, L: Ledger, B: Start>(
+        words: &[Txt],
+        host: &mut Host<S, K, L>,
+        files: B,
+    ) -> u8 {
         let alloc = host.runtime.alloc();
-        let mut keeper = FileKeeper::new(host.runtime);
+        let mut keeper = FileKeeper::new(host.runtime, files);
         let status = history_top(alloc, words, &mut host.sink, &mut keeper, &mut host.steps);
         keeper.close();
         status
     }
 }
 
+// `Unknown` leaves open what the files hold. It supposes that when a power cut interrupts a write,
+// the disk leaves each byte of the written range either old or new, and all other bytes unchanged.
+// Most commits therefore sync once.
 fn main(rt: HostRuntime) -> Ended {
-    start::<History>(rt)
+    start::<History, Unknown>(rt, Unknown)
 }

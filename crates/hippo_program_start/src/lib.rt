@@ -10,6 +10,7 @@ ghost use Rattle.hippo_program_start.specs.Statuses.{FaultCounts, fault_counts};
 use hippo_io::{Sink, Source, StdSink, StdSource};
 use hippo_keeper::Steps;
 use hippo_values::{Memory, Sequence, Txt};
+use sqlite_disk::Start;
 use std::marker::{Brand, Model};
 use std::process::{ExitCode, Termination};
 use std::rt::HostRuntime;
@@ -37,8 +38,13 @@ pub trait Program {
     // its sink had failed before and after.
     ghost Answers: { List Txt → ℕ → FaultCounts → FaultCounts → Type 0 };
 
-    /// Does what the words ask for, and returns the exit status.
-    fn call<S: Source, K: Sink, L: Ledger>(words: &[Txt], host: &mut Host<S, K, L>) -> u8
+    /// Does what the words ask for, and returns the exit status. `B` describes what the files of the
+    /// store hold at first: what is said holds for each such description, and no code can read it.
+    fn call<S: Source, K: Sink, L: Ledger, B: Start>(
+        words: &[Txt],
+        host: &mut Host<S, K, L>,
+        files: B,
+    ) -> u8
         ensures answers { Answers words.now result
             (fault_counts (S.faults host.old.source) (K.faults host.old.sink))
             (fault_counts (S.faults host.new.source) (K.faults host.new.sink)) };
@@ -82,7 +88,12 @@ fn words(rt: &HostRuntime) -> Result<Words, Memory> {
 
 // Runs a program on these words, over standard input and standard output, with a ledger that
 // nothing else uses.
-fn run<P: Program, L: Ledger>(rt: HostRuntime, words: &[Txt], blank: Blank) -> u8
+fn run<P: Program, L: Ledger, B: Start>(
+    rt: HostRuntime,
+    words: &[Txt],
+    files: B,
+    blank: Blank,
+) -> u8
     requires name { blank.name ≡ L.name }
     requires parts { blank.parts ≡ L.parts }
     requires some { 0 < blank.parts }
@@ -95,13 +106,13 @@ fn run<P: Program, L: Ledger>(rt: HostRuntime, words: &[Txt], blank: Blank) -> u
         sink: StdSink::new(rt.stdout()),
         steps: Steps::<L>::new(blank),
     };
-    P::call(words, &mut host)
+    P::call(words, &mut host, files)
 }
 
 /// Runs a program on the words after its name, over standard input and standard output. It ends
 /// with the status that the program returns. If memory runs out for the words, it ends with
-/// [`NO_MEMORY`], and nothing is read or written.
-pub fn start<P: Program>(rt: HostRuntime) -> Ended
+/// [`NO_MEMORY`], and nothing is read or written. A `main` passes `Unknown`.
+pub fn start<P: Program, B: Start>(rt: HostRuntime, files: B) -> Ended
     ensures ends { (result ≡ 7) ⊎ ((words : List Txt) × (before : FaultCounts)
         × (after : FaultCounts)
         × P.Answers words result before after) }
@@ -109,6 +120,6 @@ pub fn start<P: Program>(rt: HostRuntime) -> Ended
     let Ok(words) = words(&rt) else {
         return Ended { status: NO_MEMORY };
     };
-    let status = run::<P, Brand>(rt, words.as_slice(), Blank::new(1));
+    let status = run::<P, Brand, B>(rt, words.as_slice(), files, Blank::new(1));
     Ended { status }
 }

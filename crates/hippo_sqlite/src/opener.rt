@@ -9,7 +9,7 @@ ghost use Rattle.hippo_sqlite.specs.Openings.{IsFoundIn};
 
 use crate::faults::fault_of;
 use hippo_keeper::KeeperFault;
-use sqlite::{Alter, Connection, FileFrom, FileStore, Files, Options, Start, Unknown};
+use sqlite::{Alter, Connection, FileFrom, FileStore, Files, Options, Start};
 use sqlite_disk::Disk;
 use std::alloc::Global;
 use std::rt::HostRuntime;
@@ -35,41 +35,43 @@ pub trait Opener {
             → finds self.old name.now (state Self.Base.Store c).committed.trees) };
 }
 
-/// Opens the file with this name, or creates it. We assume that when a power cut interrupts a
-/// write, the disk leaves each byte of the written range either old or new, and all other bytes
-/// unchanged. Most commits therefore sync once.
+/// Opens the file with this name, or creates it, as `B` describes it: what the file and its log hold
+/// first, and what a power cut leaves of a write that it interrupts. It opens one file in all.
 #[derive(Drop)]
-pub struct FileOpener {
+pub struct FileOpener<B: Start> {
     runtime: HostRuntime,
-    used: bool,
+    // Handed over when the file is opened.
+    start: Option<B>,
 }
 
-impl FileOpener {
-    /// An opener of files that has not been used.
-    pub fn new(runtime: HostRuntime) -> FileOpener
-        ensures { result.used ≡ false }
+impl<B: Start> FileOpener<B> {
+    /// An opener of a file that `B` describes.
+    pub fn new(runtime: HostRuntime, start: B) -> FileOpener<B>
+        ensures { is_some result.start ≡ true }
     {
         FileOpener {
             runtime,
-            used: false,
+            start: Some(start),
         }
     }
 }
 
-impl Opener for FileOpener {
-    type Base = FileStore<FileFrom<Unknown>>;
+impl<B: Start> Opener for FileOpener<B> {
+    type Base = FileStore<FileFrom<B>>;
 
-    ghost used = { λ opener. opener.used };
+    ghost used = { λ opener. not (is_some opener.start) };
 
-    ghost finds = { λ opener name trees. IsFoundIn (image_at ⟦<Unknown as Start>⟧) trees };
+    ghost finds = { λ opener name trees. IsFoundIn (image_at B.Start) trees };
 
     fn connect(
         &mut self,
         _alloc: Global,
         name: &str,
-    ) -> Result<Connection<FileStore<FileFrom<Unknown>>>, KeeperFault> {
-        self.used = true;
-        match Connection::open_from(&self.runtime, name, false, Unknown) {
+    ) -> Result<Connection<FileStore<FileFrom<B>>>, KeeperFault> {
+        let Some(start) = self.start.take() else {
+            return Err(KeeperFault::Failed);
+        };
+        match Connection::open_from(&self.runtime, name, false, start) {
             Ok(connection) => Ok(connection),
             Err((error, _)) => Err(fault_of(error)),
         }

@@ -7,32 +7,35 @@ ghost use Rattle.hippo_sqlite.specs.Standings.{finds_by};
 
 use hippo_keeper::{CountedKeeper, Keeper, KeeperFault, ReadQuery, ReadResult, Steps};
 use hippo_model::StoredEntry;
-use hippo_sqlite::{FileOpener, SqliteKeeper};
+use hippo_sqlite::{FileOpener, Opener, SqliteKeeper};
 use hippo_values::Moment;
-use sqlite::{Start, Unknown};
+use sqlite::Start;
 use std::alloc::Global;
 use std::rt::HostRuntime;
 use std::sync::ledger::Ledger;
 
 /// A keeper over the SQLite file whose name is given to `start`. The file is created if there is
-/// none. If the name is empty, the store is in memory.
+/// none. If the name is empty, the store is in memory. `B` describes what the file and its log hold
+/// before the start.
 #[derive(Drop)]
-pub struct FileKeeper {
-    keeper: SqliteKeeper<FileOpener>,
+pub struct FileKeeper<B: Start>
+where
+    FileOpener<B>: Opener,
+{
+    keeper: SqliteKeeper<FileOpener<B>>,
 }
 
-impl FileKeeper {
-    /// A keeper that has not been started. Its start finds what the file with that name and its log
-    /// recover to.
-    pub fn new(runtime: HostRuntime) -> FileKeeper
-        ensures ready { IsReady false (⟦<FileKeeper as Keeper>⟧.state result) }
+impl<B: Start> FileKeeper<B> {
+    /// A keeper that has not been started. Its start finds what the file and its log recover to,
+    /// from what `B` says that they hold.
+    pub fn new(runtime: HostRuntime, start: B) -> FileKeeper<B>
+        ensures ready { IsReady false (⟦<FileKeeper<B> as Keeper>⟧.state result) }
         ensures finds { (name : List ℕ) (entries : Store)
-            → (⟦<FileKeeper as Keeper>⟧.state result).finds name entries
-            ↔ finds_by (λ file trees. IsFoundIn (image_at ⟦<Unknown as Start>⟧) trees) name
-            entries }
+            → (⟦<FileKeeper<B> as Keeper>⟧.state result).finds name entries
+            ↔ finds_by (λ file trees. IsFoundIn (image_at B.Start) trees) name entries }
     {
         FileKeeper {
-            keeper: SqliteKeeper::new(FileOpener::new(runtime)),
+            keeper: SqliteKeeper::new(FileOpener::new(runtime, start)),
         }
     }
 
@@ -42,8 +45,8 @@ impl FileKeeper {
     }
 }
 
-impl Keeper for FileKeeper {
-    ghost state = { λ keeper. ⟦<SqliteKeeper<FileOpener> as Keeper>⟧.state keeper.keeper };
+impl<B: Start> Keeper for FileKeeper<B> {
+    ghost state = { λ keeper. ⟦<SqliteKeeper<FileOpener<B>> as Keeper>⟧.state keeper.keeper };
 
     fn start(&mut self, alloc: Global, name: &str) -> Result<(), KeeperFault> {
         self.keeper.start(alloc, name)

@@ -7,6 +7,7 @@ ghost use Rattle.std.specs.Prelude.{◌≡◌, ◌⊎◌, IfOk, length, min};
 use hippo_io::{Failed, Sink, Source, write_whole};
 use hippo_program_start::{Ended, Host, Program, start};
 use hippo_values::Txt;
+use sqlite_disk::{Start, Unknown};
 use std::sync::ledger::Ledger;
 
 // Writes each word on a line, and returns how many there are.
@@ -28,11 +29,15 @@ impl Program for Echo {
     ghost Answers = { λ words status before after.
         (status ≡ min 255 (length words)) ⊎ (status ≡ 255) };
 
-    fn call<S: Source, K: Sink, L: Ledger>(words: &[Txt], host: &mut Host<S, K, L>) -> u8 {
+    fn call<S: Source, K: Sink, L: Ledger, B: Start>(
+        words: &[Txt],
+        host: &mut Host<S, K, L>,
+        _files: B,
+    ) -> u8 {
         say_words(words, &mut host.sink).unwrap_or(u8::MAX)
     }
 }
 
 fn main(rt: HostRuntime) -> Ended {
-    start::<Echo>(rt)
+    start::<Echo, Unknown>(rt, Unknown)
 }
