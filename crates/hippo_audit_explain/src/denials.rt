@@ -8,7 +8,7 @@ ghost use Rattle.hippo_audit_explain.specs.Denying.{one_count, tables_versions, 
 use crate::faults::{DenialsFault, fault_of};
 use crate::rows::{Denied, RulesThen, list_table};
 use hippo_backlog::{ReadFault, snapshot};
-use hippo_keeper::{Keeper, Steps};
+use hippo_keeper::{CountedKeeper, Steps};
 use hippo_model::{Act, Entry, Query, Schema};
 use hippo_policy::PolicyBook;
 use hippo_typing::read_meaning;
@@ -28,7 +28,7 @@ struct Wanted<'s, 'a> {
 }
 
 // Adds the denied cells of a table. Reads the table's rows as they were.
-fn read_table<'a, P: Keeper, L: Ledger>(
+fn read_table<'a, P: CountedKeeper<L>, L: Ledger>(
     keeper: &mut P,
     alloc: Global,
     wanted: &Wanted<'_, 'a>,
@@ -57,7 +57,7 @@ fn read_table<'a, P: Keeper, L: Ledger>(
 }
 
 // Adds the denied cells of the table with this name.
-fn read_named<'a, P: Keeper, L: Ledger>(
+fn read_named<'a, P: CountedKeeper<L>, L: Ledger>(
     keeper: &mut P,
     alloc: Global,
     wanted: &Wanted<'_, 'a>,
@@ -82,7 +82,7 @@ fn read_named<'a, P: Keeper, L: Ledger>(
 }
 
 // Adds the denied cells of a query's tables, in the order of FROM.
-fn read_tables<'a, P: Keeper, L: Ledger>(
+fn read_tables<'a, P: CountedKeeper<L>, L: Ledger>(
     keeper: &mut P,
     alloc: Global,
     wanted: &Wanted<'_, 'a>,
@@ -108,7 +108,7 @@ fn read_tables<'a, P: Keeper, L: Ledger>(
 }
 
 // Adds the denied cells of the query that the text means.
-fn read_text<'a, P: Keeper, L: Ledger>(
+fn read_text<'a, P: CountedKeeper<L>, L: Ledger>(
     keeper: &mut P,
     alloc: Global,
     wanted: &Wanted<'_, 'a>,
@@ -142,7 +142,7 @@ fn read_text<'a, P: Keeper, L: Ledger>(
 /// The result is guaranteed if the store's contents are known and are a valid history. `Damaged` is
 /// then never returned. `Keeper` is returned only if the keeper's count of faults rose. Each
 /// version that the keeper hands over is one step.
-pub fn denied_cells<'a, P: Keeper, L: Ledger>(
+pub fn denied_cells<'a, P: CountedKeeper<L>, L: Ledger>(
     keeper: &mut P,
     alloc: Global,
     catalog: &'a Catalog,

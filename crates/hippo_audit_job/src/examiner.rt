@@ -5,14 +5,14 @@ ghost use Rattle.hippo_audit_job.specs.Examining.{Examination, MayExamine, Exami
 
 use crate::past::Past;
 use hippo_backlog::ReadFault;
-use hippo_keeper::{Keeper, Steps};
+use hippo_keeper::{CountedKeeper, Steps};
 use hippo_model::{Audit, Entry, Query, SharedTuple};
 use std::alloc::Global;
 use std::sync::ledger::Ledger;
 
 /// Examines logged queries, in the order of their entries, for the rows that they share with an
 /// audit.
-pub trait Examiner<P: Keeper> {
+pub trait Examiner<P: CountedKeeper<L>, L: Ledger> {
     // What contracts say about an examiner.
     ghost terms: { Examination Self };
 
@@ -24,7 +24,7 @@ pub trait Examiner<P: Keeper> {
     /// past is `past`, and the examiner fits that history at the entry's number. `Damaged` is then
     /// never returned. `Keeper` is returned only if the keeper's count of faults rose. Each version
     /// that the keeper hands over is one step.
-    fn examine<L: Ledger>(
+    fn examine(
         &mut self,
         keeper: &mut P,
         alloc: Global,

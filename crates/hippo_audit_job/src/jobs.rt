@@ -8,7 +8,7 @@ use crate::past::Past;
 use crate::questions::find_flag;
 use crate::reading::{first_up_to, has_read, read_ahead};
 use hippo_backlog::{Ahead, ReadFault};
-use hippo_keeper::{Keeper, Steps};
+use hippo_keeper::{CountedKeeper, Steps};
 use hippo_model::{Audit, Entry, Flag, Flags};
 use hippo_values::Memory;
 use std::alloc::Global;
@@ -103,9 +103,9 @@ impl<X> Job<X> {
 
     /// How many versions the job's examiner was handed, if it counts them. The count stops at 2^64
     /// - 1.
-    pub fn taken<P: Keeper>(&self) -> Option<u64>
+    pub fn taken<P: CountedKeeper<L>, L: Ledger>(&self) -> Option<u64>
     where
-        X: Examiner<P>,
+        X: Examiner<P, L>,
         ensures { result ≡ option_map shown_count (X.terms.handed self.now.examiner) }
     {
         self.examiner.taken()
@@ -133,7 +133,7 @@ impl<X> Job<X> {
     }
 
     // Looks at `entry`, the first logged query that was read ahead.
-    fn look_at<P: Keeper, L: Ledger>(
+    fn look_at<P: CountedKeeper<L>, L: Ledger>(
         &mut self,
         entry: Entry,
         keeper: &mut P,
@@ -142,7 +142,7 @@ impl<X> Job<X> {
         steps: &mut Steps<L>,
     ) -> Result<(), ReadFault>
     where
-        X: Examiner<P>,
+        X: Examiner<P, L>,
         requires may { MayLook X.terms entry.seq self.old (P.state keeper.old) }
         requires first { IsFirstWaiting self.old.questions entry }
         ensures looks { LooksOn X.terms entry.seq past.now result self.old self.new
@@ -170,7 +170,7 @@ impl<X> Job<X> {
     }
 
     // Looks at the logged queries that were read ahead and whose numbers are at most `upto`.
-    fn look_at_waiting<P: Keeper, L: Ledger>(
+    fn look_at_waiting<P: CountedKeeper<L>, L: Ledger>(
         &mut self,
         keeper: &mut P,
         alloc: Global,
@@ -179,7 +179,7 @@ impl<X> Job<X> {
         steps: &mut Steps<L>,
     ) -> Result<(), ReadFault>
     where
-        X: Examiner<P>,
+        X: Examiner<P, L>,
         requires may { MayLook X.terms upto self.old (P.state keeper.old) }
         ensures looks { LooksOn X.terms upto past.now result self.old self.new
             (P.state keeper.old) (P.state keeper.new) steps.old steps.new }
@@ -206,7 +206,7 @@ impl<X> Job<X> {
     /// history whose past is `past`, and the job fits that history. `Damaged` is then never
     /// returned. `Keeper` is returned only if the keeper's count of faults rose. The steps and the
     /// count of `taken` rise by the same number.
-    pub fn step<P: Keeper, L: Ledger>(
+    pub fn step<P: CountedKeeper<L>, L: Ledger>(
         &mut self,
         keeper: &mut P,
         alloc: Global,
@@ -215,7 +215,7 @@ impl<X> Job<X> {
         steps: &mut Steps<L>,
     ) -> Result<(), ReadFault>
     where
-        X: Examiner<P>,
+        X: Examiner<P, L>,
         requires ready { IsReady true (P.state keeper.old) }
         requires sound { IsSoundJob X.terms self.old }
         ensures stepped { HasStepped X.terms count past.now result self.old self.new

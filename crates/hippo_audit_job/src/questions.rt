@@ -11,7 +11,7 @@ use crate::candidates::{in_period, is_exempt, names_all};
 use crate::examiner::Examiner;
 use crate::past::Past;
 use hippo_backlog::ReadFault;
-use hippo_keeper::{Keeper, Steps};
+use hippo_keeper::{CountedKeeper, Steps};
 use hippo_model::{Act, Audit, Entry, Flag, Pair, Query, SharedTuple};
 use hippo_typing::read_meaning;
 use hippo_values::{Memory, Moment, Name, Txt};
@@ -117,7 +117,7 @@ fn candidate(
 /// Returns the tuple that a logged query shares with an audit; `None` if the query is not a
 /// candidate. `Damaged` if the entry is not a logged query of the audit's period, or if its text
 /// means nothing.
-pub(crate) fn shared_with<P: Keeper, L: Ledger, X: Examiner<P>>(
+pub(crate) fn shared_with<P: CountedKeeper<L>, L: Ledger, X: Examiner<P, L>>(
     examiner: &mut X,
     keeper: &mut P,
     alloc: Global,
@@ -152,7 +152,7 @@ pub(crate) fn shared_with<P: Keeper, L: Ledger, X: Examiner<P>>(
 
 /// Returns the flag of a logged query if it shares a tuple with an audit. The errors are those of
 /// `shared_with`.
-pub(crate) fn find_flag<P: Keeper, L: Ledger, X: Examiner<P>>(
+pub(crate) fn find_flag<P: CountedKeeper<L>, L: Ledger, X: Examiner<P, L>>(
     examiner: &mut X,
     keeper: &mut P,
     alloc: Global,

@@ -5,7 +5,7 @@ ghost use Rattle.hippo_backlog.specs.Backlogs.{Snapshots};
 
 use crate::faults::ReadFault;
 use crate::versions::Versions;
-use hippo_keeper::{Keeper, Steps};
+use hippo_keeper::{CountedKeeper, Steps};
 use hippo_model::Schema;
 use hippo_tables_rows::RowSet;
 use hippo_values::{Duplicate, Memory};
@@ -20,7 +20,7 @@ use std::sync::ledger::Ledger;
 /// stores `Damaged` has the number of an entry that was handed over and does not fit. `Keeper` is
 /// returned only if the keeper's count of faults rose. Each version that the keeper hands over is
 /// one step.
-pub fn snapshot<P: Keeper, L: Ledger>(
+pub fn snapshot<P: CountedKeeper<L>, L: Ledger>(
     keeper: &mut P,
     alloc: Global,
     schema: &Schema,

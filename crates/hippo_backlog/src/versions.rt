@@ -9,7 +9,7 @@ ghost use Rattle.hippo_backlog.specs.declared.faults.ReadFault.TheVariants.{Dama
 use crate::ahead::Ahead;
 use crate::changes::take;
 use crate::faults::{ReadFault, fault_of};
-use hippo_keeper::{Keeper, Steps};
+use hippo_keeper::{CountedKeeper, Steps};
 use hippo_model::{Places, Schema};
 use hippo_tables_rows::RowSet;
 use std::alloc::Global;
@@ -132,7 +132,7 @@ impl Versions {
     }
 
     // Reads the next batch. Nothing must be waiting.
-    fn read_piece<P: Keeper, L: Ledger>(
+    fn read_piece<P: CountedKeeper<L>, L: Ledger>(
         &mut self,
         keeper: &mut P,
         alloc: Global,
@@ -173,7 +173,7 @@ impl Versions {
     /// `Damaged` has the number of an entry that was handed over and does not fit. It is never
     /// returned if the store's contents are known and are a valid history. Each version is read
     /// once and is then one step.
-    pub fn advance_to<P: Keeper, L: Ledger>(
+    pub fn advance_to<P: CountedKeeper<L>, L: Ledger>(
         &mut self,
         keeper: &mut P,
         alloc: Global,

@@ -6,7 +6,7 @@ use crate::held::place_of;
 use hippo_audit_job::Past;
 use hippo_backlog::ReadFault;
 use hippo_intervals::LiveRows;
-use hippo_keeper::{Keeper, Steps};
+use hippo_keeper::{CountedKeeper, Steps};
 use hippo_model::{Audit, Query, Schema};
 use hippo_values::{Memory, Name};
 use std::alloc::Global;
@@ -37,7 +37,7 @@ impl<'a> Forward<'a> {
     ghost use Rattle.hippo_combine.specs.Bringing.{AreBrought, BringsNamed, BringsOn, MayGo};
 
     // Moves a table forward, if it is known.
-    fn bring<P: Keeper, L: Ledger>(
+    fn bring<P: CountedKeeper<L>, L: Ledger>(
         &self,
         tables: &mut Vec<LiveRows>,
         keeper: &mut P,
@@ -60,7 +60,7 @@ impl<'a> Forward<'a> {
     }
 
     // Moves the known ones of the tables with these names forward.
-    fn bring_all<P: Keeper, L: Ledger>(
+    fn bring_all<P: CountedKeeper<L>, L: Ledger>(
         &self,
         tables: &mut Vec<LiveRows>,
         keeper: &mut P,
@@ -79,7 +79,7 @@ impl<'a> Forward<'a> {
     }
 
     /// Moves the known ones of an audit's and a query's tables forward.
-    pub(crate) fn bring_both<P: Keeper, L: Ledger>(
+    pub(crate) fn bring_both<P: CountedKeeper<L>, L: Ledger>(
         &self,
         tables: &mut Vec<LiveRows>,
         keeper: &mut P,

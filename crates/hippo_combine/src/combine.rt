@@ -9,7 +9,7 @@ use crate::sharing::shared_with;
 use hippo_audit_job::{Examiner, Past};
 use hippo_backlog::ReadFault;
 use hippo_intervals::LiveRows;
-use hippo_keeper::{Keeper, Steps};
+use hippo_keeper::{CountedKeeper, Steps};
 use hippo_model::{Audit, Entry, Query, SharedTuple};
 use std::alloc::Global;
 use std::sync::ledger::Ledger;
@@ -51,12 +51,12 @@ pub fn number_before(seq: u64, count: u64) -> Option<u64>
     }
 }
 
-impl<P: Keeper> Examiner<P> for Combine {
+impl<P: CountedKeeper<L>, L: Ledger> Examiner<P, L> for Combine {
     ghost use Rattle.hippo_combine.specs.Combining.{combine_terms};
 
     ghost terms = { combine_terms };
 
-    fn examine<L: Ledger>(
+    fn examine(
         &mut self,
         keeper: &mut P,
         alloc: Global,

@@ -17,7 +17,7 @@ use hippo_audit_job::{Job, Past};
 use hippo_backlog::ReadFault;
 use hippo_combine::Combine;
 use hippo_engine_rules::{EngineFault, Reply, refuse_out_of_memory};
-use hippo_keeper::{Keeper, Steps};
+use hippo_keeper::{CountedKeeper, Steps};
 use hippo_model::{Audit, Flag};
 use hippo_replay::State;
 use hippo_report::{Format, Speaker, number_line};
@@ -27,7 +27,7 @@ use std::alloc::Global;
 use std::sync::ledger::Ledger;
 
 // A job that has looked at all queries that were asked so far.
-fn looked_over<P: Keeper, L: Ledger>(
+fn looked_over<P: CountedKeeper<L>, L: Ledger>(
     alloc: Global,
     keeper: &mut P,
     state: &State,
@@ -129,7 +129,7 @@ fn say_flags(
 /// Finds the flags of an audit over all queries that were asked so far, and replies with them, or
 /// that memory ran out. Returns `EngineFault::Keeper` only if the keeper failed, and
 /// `EngineFault::Damaged` only if the store is not transparent.
-pub fn tell_flags<P: Keeper, L: Ledger>(
+pub fn tell_flags<P: CountedKeeper<L>, L: Ledger>(
     alloc: Global,
     keeper: &mut P,
     state: &State,

@@ -10,7 +10,7 @@ ghost use Rattle.hippo_engine_audits.specs.Explaining.{told_of, told_cells, expl
 use hippo_audit_explain::{DenialsFault, Denied, denied_cells};
 use hippo_backlog::ReadFault;
 use hippo_engine_rules::{EngineFault, Reply, refuse, refuse_out_of_memory};
-use hippo_keeper::{Keeper, Steps};
+use hippo_keeper::{CountedKeeper, Steps};
 use hippo_model::Entry;
 use hippo_replay::State;
 use hippo_report::{Refusal, Speaker, denied_line, number_line};
@@ -71,7 +71,7 @@ fn say_cells(
 /// Replies to the console with the cells that were denied to a question, and the rules that denied
 /// them; or that they are too many, or that memory ran out. Returns `EngineFault::Keeper` only if
 /// the keeper failed, and `EngineFault::Damaged` only if the store is not transparent.
-pub fn tell_cells<P: Keeper, L: Ledger>(
+pub fn tell_cells<P: CountedKeeper<L>, L: Ledger>(
     alloc: Global,
     keeper: &mut P,
     state: &State,

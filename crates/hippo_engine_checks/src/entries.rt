@@ -8,7 +8,7 @@ ghost use Rattle.hippo_engine_checks.specs.Findings.{LooksUp};
 
 use hippo_backlog::{ReadFault, fault_of};
 use hippo_entry::decode;
-use hippo_keeper::{Keeper, Steps};
+use hippo_keeper::{CountedKeeper, Steps};
 use hippo_model::{Act, Entry, StoredEntry};
 use hippo_replay::State;
 use hippo_values::{Boxed, Memory};
@@ -74,7 +74,7 @@ fn first_entry(alloc: Global, list: &[StoredEntry], number: u64) -> Result<Boxed
 // The entry with a number in the history that a keeper keeps. Or a fault: out of memory, `Keeper`
 // only if the keeper failed, or `Damaged` only if the store is not transparent. Each version that
 // is read counts as a step.
-fn read_entry<P: Keeper, L: Ledger>(
+fn read_entry<P: CountedKeeper<L>, L: Ledger>(
     alloc: Global,
     keeper: &mut P,
     number: u64,
@@ -109,7 +109,7 @@ fn if_question(entry: Boxed<Entry>) -> Option<Boxed<Entry>>
 
 /// The question with a number in the history that a keeper keeps, or none if no question has that
 /// number. Or a fault, as for reading an entry. Each version that is read counts as a step.
-pub(crate) fn question_at<P: Keeper, L: Ledger>(
+pub(crate) fn question_at<P: CountedKeeper<L>, L: Ledger>(
     alloc: Global,
     keeper: &mut P,
     state: &State,

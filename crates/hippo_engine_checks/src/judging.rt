@@ -10,7 +10,7 @@ use crate::deeds::{Deed, Unjudged};
 use crate::requests::{judge_clock, judge_request};
 use crate::statements::{judge_statement, unread};
 use hippo_engine_sessions::WorldView;
-use hippo_keeper::{Keeper, Steps};
+use hippo_keeper::{CountedKeeper, Steps};
 use hippo_replay::State;
 use hippo_report::Speaker;
 use hippo_stmt_lines::Command;
@@ -33,7 +33,7 @@ pub fn who_commands(found: &Command<'_>) -> Speaker
 /// What to do for a command, or why not: its first refusal, or out of memory. An EXPLAIN of the
 /// console looks up its question in the keeper's history, where each version that is read counts as
 /// a step. No other command reads the history.
-pub fn judge<'t, P: Keeper, L: Ledger, W: WorldView>(
+pub fn judge<'t, P: CountedKeeper<L>, L: Ledger, W: WorldView>(
     alloc: Global,
     state: &State,
     world: &W,

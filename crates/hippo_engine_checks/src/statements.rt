@@ -20,7 +20,7 @@ use crate::changes::entry_of_change;
 use crate::deeds::{Deed, Unjudged};
 use crate::entries::question_at;
 use hippo_engine_sessions::WorldView;
-use hippo_keeper::{Keeper, Steps};
+use hippo_keeper::{CountedKeeper, Steps};
 use hippo_model::Audit;
 use hippo_replay::State;
 use hippo_report::{Refusal, Speaker};
@@ -147,7 +147,7 @@ pub(crate) fn unread<'t>(found: Result<Deed<'t>, Refusal>) -> Result<Deed<'t>, U
 }
 
 // EXPLAIN at the console: looks up the question with a number.
-fn look_up<P: Keeper, L: Ledger>(
+fn look_up<P: CountedKeeper<L>, L: Ledger>(
     alloc: Global,
     state: &State,
     keeper: &mut P,
@@ -189,7 +189,7 @@ fn statement_of_session<'t, W: WorldView>(
 }
 
 // What to do for a statement of the console. Only EXPLAIN reads the history.
-fn statement_of_console<P: Keeper, L: Ledger, W: WorldView>(
+fn statement_of_console<P: CountedKeeper<L>, L: Ledger, W: WorldView>(
     alloc: Global,
     state: &State,
     world: &W,
@@ -245,7 +245,7 @@ fn refused_to_nobody(statement: &Stmt) -> Refusal
 
 /// What to do for a statement in a text, or why not. Only sessions may ask questions, and only the
 /// console may use the other statements. Only EXPLAIN reads the history.
-pub(crate) fn judge_statement<'t, P: Keeper, L: Ledger, W: WorldView>(
+pub(crate) fn judge_statement<'t, P: CountedKeeper<L>, L: Ledger, W: WorldView>(
     alloc: Global,
     state: &State,
     world: &W,

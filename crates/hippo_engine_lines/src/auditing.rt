@@ -11,7 +11,7 @@ ghost use Rattle.hippo_engine.specs.Carrying.{AtWork, Carries};
 use hippo_engine::Engine;
 use hippo_engine_audits::tell_flags;
 use hippo_engine_rules::EngineFault;
-use hippo_keeper::{Keeper, Steps};
+use hippo_keeper::{CountedKeeper, Steps};
 use hippo_model::Audit;
 use hippo_values::Boxed;
 use std::alloc::Global;
@@ -20,7 +20,7 @@ use std::sync::ledger::Ledger;
 /// Replies with the questions that an audit flags, among all that were asked so far. Returns
 /// `EngineFault::Keeper` only if the keeper failed, and `EngineFault::Damaged` only if the store is
 /// not transparent.
-pub(crate) fn audit_history<P: Keeper, L: Ledger>(
+pub(crate) fn audit_history<P: CountedKeeper<L>, L: Ledger>(
     engine: &mut Engine,
     alloc: Global,
     keeper: &mut P,

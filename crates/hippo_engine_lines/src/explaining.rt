@@ -7,7 +7,7 @@ ghost use Rattle.hippo_engine_lines.specs.Performing.{Explained};
 use hippo_engine::Engine;
 use hippo_engine_audits::tell_cells;
 use hippo_engine_rules::EngineFault;
-use hippo_keeper::{Keeper, Steps};
+use hippo_keeper::{CountedKeeper, Steps};
 use hippo_model::Entry;
 use hippo_values::Boxed;
 use std::alloc::Global;
@@ -16,7 +16,7 @@ use std::sync::ledger::Ledger;
 /// Replies to the console with the cells that were denied to a question, and the rules that denied
 /// them, as of the question's own time. Returns `EngineFault::Keeper` only if the keeper failed,
 /// and `EngineFault::Damaged` only if the store is not transparent.
-pub(crate) fn explain<P: Keeper, L: Ledger>(
+pub(crate) fn explain<P: CountedKeeper<L>, L: Ledger>(
     engine: &mut Engine,
     alloc: Global,
     keeper: &mut P,

@@ -12,7 +12,7 @@ use hippo_audit_job::Past;
 use hippo_engine::Engine;
 use hippo_engine_audits::tell_step;
 use hippo_engine_rules::EngineFault;
-use hippo_keeper::{Keeper, Steps};
+use hippo_keeper::{CountedKeeper, Steps};
 use std::alloc::Global;
 use std::sync::ledger::Ledger;
 
@@ -20,7 +20,7 @@ use std::sync::ledger::Ledger;
 /// the reply; when out of memory, the flags wait. Returns `EngineFault::Keeper` only if the keeper
 /// failed, and `EngineFault::Damaged` only if the store is not transparent. Each version that is
 /// read counts as a step.
-pub(crate) fn step_job<P: Keeper, L: Ledger>(
+pub(crate) fn step_job<P: CountedKeeper<L>, L: Ledger>(
     engine: &mut Engine,
     alloc: Global,
     keeper: &mut P,

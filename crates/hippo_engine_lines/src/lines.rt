@@ -18,7 +18,7 @@ use hippo_engine::Engine;
 use hippo_engine_checks::{Deed, judge, who_commands};
 use hippo_engine_rules::EngineFault;
 use hippo_io::{Line, Sink};
-use hippo_keeper::{Keeper, Steps};
+use hippo_keeper::{CountedKeeper, Steps};
 use hippo_stmt_lines::command_of;
 use std::alloc::Global;
 use std::sync::ledger::Ledger;
@@ -38,7 +38,7 @@ fn has_text(line: &Line<'_>)
 }
 
 // Does the deed that was judged for a command.
-fn perform<P: Keeper, L: Ledger>(
+fn perform<P: CountedKeeper<L>, L: Ledger>(
     engine: &mut Engine,
     alloc: Global,
     keeper: &mut P,
@@ -88,7 +88,7 @@ fn perform<P: Keeper, L: Ledger>(
 /// returns. Returns `EngineFault::Keeper` only if the keeper's count of faults rose; the engine
 /// must not be used after that. Returns `EngineFault::Damaged` only if the store is not
 /// transparent. Each version that is read counts as a step. The end of the input commands nothing.
-pub fn answer_line<P: Keeper, L: Ledger>(
+pub fn answer_line<P: CountedKeeper<L>, L: Ledger>(
     engine: &mut Engine,
     alloc: Global,
     line: Line<'_>,
@@ -121,7 +121,7 @@ pub fn answer_line<P: Keeper, L: Ledger>(
 /// written  1 row 'Ada', DENIED(0)
 ///          1 end 1
 /// ```
-pub fn carry_out_line<K: Sink, P: Keeper, L: Ledger>(
+pub fn carry_out_line<K: Sink, P: CountedKeeper<L>, L: Ledger>(
     engine: &mut Engine,
     alloc: Global,
     line: Line<'_>,

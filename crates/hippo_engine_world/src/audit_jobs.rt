@@ -9,7 +9,7 @@ ghost use Rattle.hippo_engine_world.specs.Auditing.{HasBegun};
 use hippo_audit_job::{Job, Past};
 use hippo_backlog::ReadFault;
 use hippo_combine::Combine;
-use hippo_keeper::{Keeper, Steps};
+use hippo_keeper::{CountedKeeper, Steps};
 use hippo_model::{Audit, Flags};
 use std::alloc::Global;
 use std::marker::Model;
@@ -87,7 +87,7 @@ impl AuditJob {
 
     /// Looks at the next `count` entries, up to the job's end. Appends the flags that it finds to
     /// the waiting ones. The errors are those of `Job::step`.
-    pub fn step<P: Keeper, L: Ledger>(
+    pub fn step<P: CountedKeeper<L>, L: Ledger>(
         &mut self,
         keeper: &mut P,
         alloc: Global,

@@ -12,7 +12,7 @@ use crate::endings::{ending_of, served_or};
 use crate::printing::write_lines;
 use crate::showing::PIECE;
 use hippo_io::Sink;
-use hippo_keeper::{Keeper, KeeperFault, Steps};
+use hippo_keeper::{CountedKeeper, KeeperFault, Steps};
 use hippo_model::StoredEntry;
 use hippo_program_args::Ending;
 use hippo_values::Memory;
@@ -61,7 +61,7 @@ fn next_room(count: u64, last: u64) -> u64
 }
 
 // Reads the next piece and goes on over its entries. Returns whether there were any.
-fn digest_next<P: Keeper, L: Ledger>(
+fn digest_next<P: CountedKeeper<L>, L: Ledger>(
     alloc: Global,
     last: u64,
     chain: &mut Chain,
@@ -89,7 +89,7 @@ fn digest_next<P: Keeper, L: Ledger>(
 }
 
 // The digest of the first `last` entries that a started keeper stores.
-fn digest_all<P: Keeper, L: Ledger>(
+fn digest_all<P: CountedKeeper<L>, L: Ledger>(
     alloc: Global,
     last: u64,
     keeper: &mut P,
@@ -134,7 +134,7 @@ fn write_digest<K: Sink>(alloc: Global, chain: &Chain, sink: &mut K) -> Option<E
 }
 
 /// Shows the digest of the first `last` entries that a started keeper stores.
-pub(crate) fn show_digest<K: Sink, P: Keeper, L: Ledger>(
+pub(crate) fn show_digest<K: Sink, P: CountedKeeper<L>, L: Ledger>(
     alloc: Global,
     last: u64,
     sink: &mut K,

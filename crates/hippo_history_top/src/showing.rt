@@ -12,7 +12,7 @@ use crate::printing::write_lines;
 use crate::scope::is_asked;
 use hippo_entry::decode;
 use hippo_io::Sink;
-use hippo_keeper::{Keeper, Steps};
+use hippo_keeper::{CountedKeeper, Steps};
 use hippo_model::{Entry, StoredEntry};
 use hippo_program_args::{Ending, say_damaged};
 use hippo_typing_catalog::Catalog;
@@ -124,7 +124,7 @@ fn show_piece<K: Sink>(
 }
 
 // Reads the next piece and shows its entries. If there is no next piece, all are shown.
-fn show_next<K: Sink, P: Keeper, L: Ledger>(
+fn show_next<K: Sink, P: CountedKeeper<L>, L: Ledger>(
     guide: &Guide<'_>,
     progress: &mut Progress,
     sink: &mut K,
@@ -151,7 +151,7 @@ fn show_next<K: Sink, P: Keeper, L: Ledger>(
 }
 
 /// Shows what is asked for of the entries that a started keeper stores.
-pub(crate) fn show_all<K: Sink, P: Keeper, L: Ledger>(
+pub(crate) fn show_all<K: Sink, P: CountedKeeper<L>, L: Ledger>(
     guide: &Guide<'_>,
     sink: &mut K,
     keeper: &mut P,

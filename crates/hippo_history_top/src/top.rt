@@ -24,7 +24,7 @@ use crate::reading::asked_of;
 use crate::rules::append_rules;
 use crate::showing::{Guide, show_all};
 use hippo_io::Sink;
-use hippo_keeper::{Keeper, Steps};
+use hippo_keeper::{CountedKeeper, Steps};
 use hippo_program_args::{Ending, stop};
 use hippo_replay::{State, load};
 use hippo_values::{Memory, Txt};
@@ -46,7 +46,7 @@ fn write_rules<K: Sink>(alloc: Global, page: &Page, state: &State, sink: &mut K)
 }
 
 // Shows what is asked for of the history that a state stands for, and drops the state.
-fn show_view<K: Sink, P: Keeper, L: Ledger>(
+fn show_view<K: Sink, P: CountedKeeper<L>, L: Ledger>(
     alloc: Global,
     view: &View,
     state: State,
@@ -84,7 +84,7 @@ fn show_view<K: Sink, P: Keeper, L: Ledger>(
 }
 
 // Loads the stored history, and shows what is asked for.
-fn show<K: Sink, P: Keeper, L: Ledger>(
+fn show<K: Sink, P: CountedKeeper<L>, L: Ledger>(
     alloc: Global,
     store: &str,
     view: &View,
@@ -129,7 +129,7 @@ fn show<K: Sink, P: Keeper, L: Ledger>(
 /// pieces. The first read loads the history, so that damage is reported before anything else is
 /// written. If entries or their digest are asked for, a second read shows them. The rules in force
 /// are computed in memory from what was loaded, and then written.
-pub fn history_top<K: Sink, P: Keeper, L: Ledger>(
+pub fn history_top<K: Sink, P: CountedKeeper<L>, L: Ledger>(
     alloc: Global,
     words: &[Txt],
     sink: &mut K,

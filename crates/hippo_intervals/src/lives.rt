@@ -4,7 +4,7 @@ ghost use Rattle.hippo_keeper.specs.Keeping.{IsReady};
 ghost use Rattle.hippo_intervals.specs.Living.{no_lives, taken_by, Advances};
 
 use hippo_backlog::{ReadFault, Versions};
-use hippo_keeper::{Keeper, Steps};
+use hippo_keeper::{CountedKeeper, Steps};
 use hippo_model::Schema;
 use hippo_tables_rows::RowSet;
 use hippo_values::{Duplicate, Memory};
@@ -95,7 +95,7 @@ impl LiveRows {
     /// of faults rose. `Damaged` is returned with the number of an entry that was read and does not
     /// fit, and never if the store's contents are known to be a valid history. The steps and
     /// `taken` rise by the same number.
-    pub fn advance<P: Keeper, L: Ledger>(
+    pub fn advance<P: CountedKeeper<L>, L: Ledger>(
         &mut self,
         keeper: &mut P,
         alloc: Global,

@@ -36,21 +36,6 @@ pub trait Keeper {
         requires next { (state self.old).tells → entry.seq ≡ next_number (state self.old).kept }
         ensures appends { AppendsEntry entry result (state self.old) (state self.new) };
 
-    /// Returns the first `max` entries that the read query asks for; `max` is from 1 to 1,000. Each
-    /// version among them counts as one step.
-    fn read<L: Ledger>(
-        &mut self,
-        alloc: Global,
-        read_query: &ReadQuery<'_>,
-        steps: &mut Steps<L>,
-    ) -> ReadResult
-        requires ready { IsReady true (state self.old) }
-        requires some { 0 < read_query.now.max }
-        requires limit { read_query.now.max ≤ 1000 }
-        ensures reads { ReadsEntries (is_selected read_query.now.selection) read_query.now.after
-            read_query.now.max result (state self.old) (state self.new) }
-        ensures steps { steps.new ≡ steps.old + versions_read result };
-
     /// Returns the first `max` questions with a number above `after` that were asked between the
     /// moments `from` and `to`, both included. `max` is from 1 to 1,000.
     fn read_asked(
@@ -66,20 +51,35 @@ pub trait Keeper {
         requires limit { max ≤ 1000 }
         ensures reads { ReadsEntries (was_asked_in from to) after max result (state self.old)
             (state self.new) };
+}
+
+/// A keeper whose reads of versions are counted in the ledger `L`, and in no other.
+///
+/// Code that is generic in the keeper and in the ledger can count its reads only in the steps that
+/// its caller hands in. So it cannot read again and count elsewhere.
+pub trait CountedKeeper<L: Ledger>: Keeper {
+    /// Returns the first `max` entries that the read query asks for; `max` is from 1 to 1,000. Each
+    /// version among them counts as one step.
+    fn read(
+        &mut self,
+        alloc: Global,
+        read_query: &ReadQuery<'_>,
+        steps: &mut Steps<L>,
+    ) -> ReadResult
+        requires ready { IsReady true (Self.state self.old) }
+        requires some { 0 < read_query.now.max }
+        requires limit { read_query.now.max ≤ 1000 }
+        ensures reads { ReadsEntries (is_selected read_query.now.selection) read_query.now.after
+            read_query.now.max result (Self.state self.old) (Self.state self.new) }
+        ensures steps { steps.new ≡ steps.old + versions_read result };
 
     /// Returns the first `max` entries with a number above `after`; `max` is from 1 to 1,000. Each
     /// version among them counts as one step.
-    fn read_all<L: Ledger>(
-        &mut self,
-        alloc: Global,
-        after: u64,
-        max: u64,
-        steps: &mut Steps<L>,
-    ) -> ReadResult
-        requires ready { IsReady true (state self.old) }
+    fn read_all(&mut self, alloc: Global, after: u64, max: u64, steps: &mut Steps<L>) -> ReadResult
+        requires ready { IsReady true (Self.state self.old) }
         requires some { 0 < max }
         requires limit { max ≤ 1000 }
-        ensures reads { ReadsEntries is_any after max result (state self.old) (state self.new) }
+        ensures reads { ReadsEntries is_any after max result (Self.state self.old) (Self.state self.new) }
         ensures steps { steps.new ≡ steps.old + versions_read result }
     {
         let read_query = ReadQuery {
@@ -92,7 +92,7 @@ pub trait Keeper {
 
     /// Returns the first `max` versions of a table's rows with a number above `after`; `max` is
     /// from 1 to 1,000. Each version counts as one step.
-    fn read_backlog<L: Ledger>(
+    fn read_backlog(
         &mut self,
         alloc: Global,
         table: &Name,
@@ -100,12 +100,12 @@ pub trait Keeper {
         max: u64,
         steps: &mut Steps<L>,
     ) -> ReadResult
-        requires ready { IsReady true (state self.old) }
+        requires ready { IsReady true (Self.state self.old) }
         requires some { 0 < max }
         requires limit { max ≤ 1000 }
         ensures reads { ReadsEntries (is_stored_version_of table.now) after max result
-            (state self.old)
-            (state self.new) }
+            (Self.state self.old)
+            (Self.state self.new) }
         ensures steps { steps.new ≡ steps.old + versions_read result }
     {
         let read_query = ReadQuery {

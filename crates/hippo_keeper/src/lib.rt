@@ -13,7 +13,7 @@ mod standing;
 mod steps;
 
 pub use faults::{KeeperFail, KeeperFails, KeeperFault};
-pub use keeper::Keeper;
+pub use keeper::{CountedKeeper, Keeper};
 pub use memory_keeper::MemoryKeeper;
 pub use selection::{ReadQuery, ReadResult, Selection, counted};
 pub use standing::Standing;

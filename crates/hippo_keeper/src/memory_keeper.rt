@@ -8,7 +8,7 @@ ghost use Rattle.hippo_keeper.specs.Selecting.{was_asked_in, is_selected, versio
 
 use crate::calls::KeeperCalls;
 use crate::faults::{KeeperFails, KeeperFault};
-use crate::keeper::Keeper;
+use crate::keeper::{CountedKeeper, Keeper};
 use crate::pages::Pages;
 use crate::selection::{ReadQuery, ReadResult, Selection, counted};
 use crate::steps::Steps;
@@ -174,20 +174,6 @@ impl Keeper for MemoryKeeper {
         self.calls.standing.settle(answer)
     }
 
-    fn read<L: Ledger>(
-        &mut self,
-        alloc: Global,
-        read_query: &ReadQuery<'_>,
-        steps: &mut Steps<L>,
-    ) -> ReadResult
-        ensures reads { ReadsInMemory (is_selected read_query.now.selection) read_query.now.after
-            read_query.now.max result self.old self.new }
-        ensures steps { steps.new ≡ steps.old + versions_read result }
-    {
-        let answer = counted(self.find(alloc, read_query), steps);
-        self.calls.standing.settle(answer)
-    }
-
     fn read_asked(
         &mut self,
         alloc: Global,
@@ -204,6 +190,22 @@ impl Keeper for MemoryKeeper {
             max,
         };
         let answer = self.find(alloc, &read_query);
+        self.calls.standing.settle(answer)
+    }
+}
+
+impl<L: Ledger> CountedKeeper<L> for MemoryKeeper {
+    fn read(
+        &mut self,
+        alloc: Global,
+        read_query: &ReadQuery<'_>,
+        steps: &mut Steps<L>,
+    ) -> ReadResult
+        ensures reads { ReadsInMemory (is_selected read_query.now.selection) read_query.now.after
+            read_query.now.max result self.old self.new }
+        ensures steps { steps.new ≡ steps.old + versions_read result }
+    {
+        let answer = counted(self.find(alloc, read_query), steps);
         self.calls.standing.settle(answer)
     }
 }

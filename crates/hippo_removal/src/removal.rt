@@ -9,7 +9,7 @@ use crate::snapshots::{BothRows, Rows, lend_both, read_both, schemas_of};
 use hippo_audit_job::{Examiner, Past};
 use hippo_backlog::ReadFault;
 use hippo_combine::{as_read, number_before, rules_asked};
-use hippo_keeper::{Keeper, Steps};
+use hippo_keeper::{CountedKeeper, Steps};
 use hippo_model::{Audit, Entry, Query, SharedTuple};
 use hippo_values::Memory;
 use std::alloc::Global;
@@ -70,12 +70,12 @@ fn shared_over(
     first_serving(alloc, query, audit, &rules, &sets, &choices)
 }
 
-impl<P: Keeper> Examiner<P> for Removal {
+impl<P: CountedKeeper<L>, L: Ledger> Examiner<P, L> for Removal {
     ghost use Rattle.hippo_removal.specs.Removals.{removal_terms};
 
     ghost terms = { removal_terms };
 
-    fn examine<L: Ledger>(
+    fn examine(
         &mut self,
         keeper: &mut P,
         alloc: Global,

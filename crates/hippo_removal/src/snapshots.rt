@@ -6,7 +6,7 @@ ghost use Rattle.hippo_removal.specs.Removals.{IsPushed, ReadsRows, ReadsBoth};
 
 use hippo_audit_job::Past;
 use hippo_backlog::{ReadFault, snapshot};
-use hippo_keeper::{Keeper, Steps};
+use hippo_keeper::{CountedKeeper, Steps};
 use hippo_model::{Audit, Lent, LentSchemas, Query};
 use hippo_tables_rows::{RowSet, Sets};
 use hippo_typing_catalog::Catalog;
@@ -35,7 +35,7 @@ fn push(rows: &mut Rows, set: RowSet) -> Result<(), ReadFault>
 }
 
 // Adds the rows of a table as they were. A table that is not known has none.
-fn read_named<P: Keeper, L: Ledger>(
+fn read_named<P: CountedKeeper<L>, L: Ledger>(
     keeper: &mut P,
     alloc: Global,
     past: &Past<'_>,
@@ -59,7 +59,7 @@ fn read_named<P: Keeper, L: Ledger>(
 }
 
 // Adds the rows of several tables as they were.
-fn read_rows<P: Keeper, L: Ledger>(
+fn read_rows<P: CountedKeeper<L>, L: Ledger>(
     keeper: &mut P,
     alloc: Global,
     past: &Past<'_>,
@@ -84,7 +84,7 @@ fn read_rows<P: Keeper, L: Ledger>(
 
 /// Returns the rows of a query's tables and of an audit's, as they were after the first `number`
 /// entries.
-pub(crate) fn read_both<P: Keeper, L: Ledger>(
+pub(crate) fn read_both<P: CountedKeeper<L>, L: Ledger>(
     keeper: &mut P,
     alloc: Global,
     past: &Past<'_>,

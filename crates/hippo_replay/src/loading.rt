@@ -7,7 +7,7 @@ ghost use Rattle.hippo_replay.specs.Reading.{load_fault, ReadsPiece, ReadsAllKep
 
 use crate::faults::LoadFault;
 use crate::state::State;
-use hippo_keeper::{Keeper, KeeperFault, Steps};
+use hippo_keeper::{CountedKeeper, KeeperFault, Steps};
 use std::alloc::Global;
 use std::sync::ledger::Ledger;
 
@@ -24,7 +24,7 @@ fn fault_of(fault: KeeperFault) -> LoadFault
 }
 
 // Reads the next entries and takes them in. Returns whether there were any.
-fn read_on<P: Keeper, L: Ledger>(
+fn read_on<P: CountedKeeper<L>, L: Ledger>(
     keeper: &mut P,
     alloc: Global,
     state: &mut State,
@@ -48,7 +48,7 @@ fn read_on<P: Keeper, L: Ledger>(
 }
 
 // Reads and takes in all entries.
-fn read_all<P: Keeper, L: Ledger>(
+fn read_all<P: CountedKeeper<L>, L: Ledger>(
     keeper: &mut P,
     alloc: Global,
     state: &mut State,
@@ -88,7 +88,7 @@ fn read_all<P: Keeper, L: Ledger>(
 /// CREATE PURPOSE treatment                                 Ok: a state with one entry
 /// CREATE PURPOSE treatment, CREATE PURPOSE treatment       Damaged(2)
 /// ```
-pub fn load<P: Keeper, L: Ledger>(
+pub fn load<P: CountedKeeper<L>, L: Ledger>(
     keeper: &mut P,
     alloc: Global,
     name: &str,

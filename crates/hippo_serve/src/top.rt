@@ -18,7 +18,7 @@ ghost use Rattle.hippo_serve_jobs.specs.Saying.{usage};
 ghost use Rattle.hippo_serve.specs.Asking.{job_of, store_of, AskToServe, EndsAs};
 
 use hippo_io::{Sink, Source};
-use hippo_keeper::{Keeper, Steps};
+use hippo_keeper::{CountedKeeper, Steps};
 use hippo_program_args::Ending;
 use hippo_serve_args::{Job, call_of};
 use hippo_serve_jobs::{check, drill, refuse, run};
@@ -62,7 +62,7 @@ use std::sync::ledger::Ledger;
 ///          0 no 36 AlreadyThere treatment
 /// answer   0
 /// ```
-pub fn hippo_top<S: Source, K: Sink, P: Keeper, L: Ledger>(
+pub fn hippo_top<S: Source, K: Sink, P: CountedKeeper<L>, L: Ledger>(
     alloc: Global,
     words: &[Txt],
     source: &mut S,

@@ -13,7 +13,7 @@ ghost use Rattle.hippo_serve_jobs.specs.Runs.{HasTakenBytes};
 use crate::printing::say_entries;
 use crate::serving::Serving;
 use hippo_io::{Sink, Source};
-use hippo_keeper::{Keeper, Steps};
+use hippo_keeper::{CountedKeeper, Steps};
 use hippo_program_args::{Ending, stop};
 use hippo_replay::{State, load};
 use hippo_serve_args::{Job, Setting};
@@ -33,7 +33,7 @@ fn count_of(state: State) -> u64
 /// Loads the stored history, and serves all lines that a job asks for. The keeper must be neither
 /// started nor spent nor closed. Running out of memory can only happen before anything is read or
 /// written.
-pub fn run<S: Source, K: Sink, P: Keeper, L: Ledger>(
+pub fn run<S: Source, K: Sink, P: CountedKeeper<L>, L: Ledger>(
     alloc: Global,
     store: &str,
     setting: Setting,
@@ -80,7 +80,7 @@ pub fn run<S: Source, K: Sink, P: Keeper, L: Ledger>(
 /// Loads the stored history, and writes how many entries there are. The keeper must be neither
 /// started nor spent nor closed; what it stores is unchanged. The source is not passed, so nothing
 /// is read.
-pub fn check<K: Sink, P: Keeper, L: Ledger>(
+pub fn check<K: Sink, P: CountedKeeper<L>, L: Ledger>(
     alloc: Global,
     store: &str,
     sink: &mut K,

@@ -25,7 +25,7 @@ use hippo_engine::Engine;
 use hippo_engine_lines::carry_out_line;
 use hippo_engine_rules::EngineFault;
 use hippo_io::{Line, LineFault, LineReader, Sink, Source};
-use hippo_keeper::{Keeper, Steps};
+use hippo_keeper::{CountedKeeper, Steps};
 use hippo_program_args::{Ending, say_damaged};
 use hippo_replay::State;
 use hippo_serve_args::{Job, Setting};
@@ -34,7 +34,7 @@ use std::alloc::Global;
 use std::sync::ledger::Ledger;
 
 // Carries out a line and writes its reply. Returns how the run ends, if it ends here.
-fn carry_out<K: Sink, P: Keeper, L: Ledger>(
+fn carry_out<K: Sink, P: CountedKeeper<L>, L: Ledger>(
     alloc: Global,
     engine: &mut Engine,
     line: Line<'_>,
@@ -139,7 +139,7 @@ impl Serving {
 
     // Sets the clock if the job begins with that. Returns how the run ends, if it ends here. Reads
     // nothing.
-    fn serve_first<K: Sink, P: Keeper, L: Ledger>(
+    fn serve_first<K: Sink, P: CountedKeeper<L>, L: Ledger>(
         &mut self,
         job: &Job,
         keeper: &mut P,
@@ -183,7 +183,7 @@ impl Serving {
 
     // Reads the next line and carries out what the job asks for. Returns how the run ends, if it
     // ends here.
-    fn serve_line<S: Source, K: Sink, P: Keeper, L: Ledger>(
+    fn serve_line<S: Source, K: Sink, P: CountedKeeper<L>, L: Ledger>(
         &mut self,
         job: &Job,
         source: &mut S,
@@ -244,7 +244,7 @@ impl Serving {
 
     /// Serves the line with which the job begins, if there is one, and then the lines of the input,
     /// until the input ends or a fault stops it.
-    pub fn serve_all<S: Source, K: Sink, P: Keeper, L: Ledger>(
+    pub fn serve_all<S: Source, K: Sink, P: CountedKeeper<L>, L: Ledger>(
         &mut self,
         job: &Job,
         source: &mut S,

@@ -6,7 +6,7 @@ ghost use Rattle.hippo_sqlite.specs.Standings.{finds_by, sqlite_keeper_state, Is
 
 use crate::link::Link;
 use crate::opener::Opener;
-use hippo_keeper::{Keeper, KeeperFault, ReadQuery, ReadResult, Standing, Steps};
+use hippo_keeper::{CountedKeeper, Keeper, KeeperFault, ReadQuery, ReadResult, Standing, Steps};
 use hippo_model::StoredEntry;
 use hippo_values::Moment;
 use std::alloc::Global;
@@ -82,16 +82,6 @@ impl<O: Opener> Keeper for SqliteKeeper<O> {
         self.standing.settle(answer)
     }
 
-    fn read<L: Ledger>(
-        &mut self,
-        alloc: Global,
-        read_query: &ReadQuery<'_>,
-        steps: &mut Steps<L>,
-    ) -> ReadResult {
-        let answer = self.link.read(alloc, read_query, steps);
-        self.standing.settle(answer)
-    }
-
     fn read_asked(
         &mut self,
         alloc: Global,
@@ -101,6 +91,18 @@ impl<O: Opener> Keeper for SqliteKeeper<O> {
         max: u64,
     ) -> ReadResult {
         let answer = self.link.read_asked(alloc, from, to, after, max);
+        self.standing.settle(answer)
+    }
+}
+
+impl<O: Opener, L: Ledger> CountedKeeper<L> for SqliteKeeper<O> {
+    fn read(
+        &mut self,
+        alloc: Global,
+        read_query: &ReadQuery<'_>,
+        steps: &mut Steps<L>,
+    ) -> ReadResult {
+        let answer = self.link.read(alloc, read_query, steps);
         self.standing.settle(answer)
     }
 }

@@ -14,8 +14,8 @@ ghost use Rattle.hippo_sqlite_table.specs.Tables.{HistoryRow, row_of, values_of,
 
 use crate::faults::fault_of;
 use hippo_keeper::{
-    Keeper, KeeperFails, KeeperFault, MemoryKeeper, ReadQuery, ReadResult, Selection, Steps,
-    counted,
+    CountedKeeper, Keeper, KeeperFails, KeeperFault, MemoryKeeper, ReadQuery, ReadResult,
+    Selection, Steps, counted,
 };
 use hippo_model::{StoredEntry, StoredList};
 use hippo_sqlite_table::{create_history, entries_of, insert, select};

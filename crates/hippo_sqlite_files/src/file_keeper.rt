@@ -5,7 +5,7 @@ ghost use Rattle.hippo_keeper.specs.Keeping.{Store, IsReady};
 ghost use Rattle.hippo_sqlite.specs.Openings.{IsFoundIn};
 ghost use Rattle.hippo_sqlite.specs.Standings.{finds_by};
 
-use hippo_keeper::{Keeper, KeeperFault, ReadQuery, ReadResult, Steps};
+use hippo_keeper::{CountedKeeper, Keeper, KeeperFault, ReadQuery, ReadResult, Steps};
 use hippo_model::StoredEntry;
 use hippo_sqlite::{FileOpener, Opener, SqliteKeeper};
 use hippo_values::Moment;
@@ -56,15 +56,6 @@ impl<B: Start> Keeper for FileKeeper<B> {
         self.keeper.append(alloc, entry)
     }
 
-    fn read<L: Ledger>(
-        &mut self,
-        alloc: Global,
-        read_query: &ReadQuery<'_>,
-        steps: &mut Steps<L>,
-    ) -> ReadResult {
-        self.keeper.read(alloc, read_query, steps)
-    }
-
     fn read_asked(
         &mut self,
         alloc: Global,
@@ -74,5 +65,16 @@ impl<B: Start> Keeper for FileKeeper<B> {
         max: u64,
     ) -> ReadResult {
         self.keeper.read_asked(alloc, from, to, after, max)
+    }
+}
+
+impl<L: Ledger> CountedKeeper<L> for FileKeeper {
+    fn read(
+        &mut self,
+        alloc: Global,
+        read_query: &ReadQuery<'_>,
+        steps: &mut Steps<L>,
+    ) -> ReadResult {
+        self.keeper.read(alloc, read_query, steps)
     }
 }
