@@ -2,4 +2,4 @@
 use Rattle.hippo_history.proofs.main.Given as goal
 
 abbrev pub ghosts-start : goal.ghosts-start
-ghosts-start g a = record { name = a.blank.name; parts = a.blank.parts }
+ghosts-start a = record { name = a.blank.name; parts = a.blank.parts }
