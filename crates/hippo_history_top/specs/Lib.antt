@@ -8,3 +8,4 @@ pub mod ByNames
 pub mod Progress
 pub mod Digesting
 pub mod Outcomes
+pub mod Calls

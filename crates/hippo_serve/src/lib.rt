@@ -1,9 +1,11 @@
 //! The database as a service that answers lines: the top function, which does what the command's
-//! words ask for.
+//! words ask for, and the program that calls it.
 #![tactic(auto)]
 
 mod laws;
+mod program;
 mod top;
 
 pub use laws::{next_run, next_run_in_memory};
+pub use program::Hippo;
 pub use top::hippo_top;

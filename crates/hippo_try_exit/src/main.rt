@@ -5,10 +5,11 @@
 ghost use Rattle.std.specs.Prelude.{◌≡◌, ◌⊎◌, IfOk, length, min};
 
 use hippo_io::{Failed, Sink, Source, write_whole};
+use hippo_keeper::{Keeper, KeeperFails, MemoryKeeper};
 use hippo_program_start::{Ended, Host, Program, start};
 use hippo_values::Txt;
-use sqlite_disk::{Start, Unknown};
-use std::sync::ledger::Ledger;
+use std::marker::Brand;
+use std::sync::ledger::{Blank, Ledger};
 
 // Writes each word on a line, and returns how many there are.
 fn say_words<K: Sink>(words: &[Txt], sink: &mut K) -> Result<u8, Failed>
@@ -29,15 +30,15 @@ impl Program for Echo {
     ghost Answers = { λ words status before after.
         (status ≡ min 255 (length words)) ⊎ (status ≡ 255) };
 
-    fn call<S: Source, K: Sink, L: Ledger, B: Start>(
+    fn call<S: Source, K: Sink, P: Keeper, L: Ledger>(
         words: &[Txt],
-        host: &mut Host<S, K, L>,
-        _files: B,
+        host: &mut Host<S, K, P, L>,
     ) -> u8 {
         say_words(words, &mut host.sink).unwrap_or(u8::MAX)
     }
 }
 
-fn main(rt: HostRuntime) -> Ended {
-    start::<Echo, Unknown>(rt, Unknown)
+fn main(rt: HostRuntime) -> Ended<MemoryKeeper> {
+    let keeper = MemoryKeeper::new(rt.alloc(), KeeperFails::new(rt.alloc()));
+    start::<Echo, MemoryKeeper, Brand>(rt, keeper, Blank::new(1))
 }

@@ -1,0 +1,34 @@
+-- Each part of the host is one that the top function speaks of.
+use Rattle.std.proofs.Common.{◌⊎◌, inl, inr, rules, refl, sym, ap, ◌∙◌}
+use Rattle.hippo_program_start.proofs.HostLemmas.{IsSameKeeper-same}
+use Rattle.hippo_history_top.proofs.program.HistoryProgram.call.Goals as goal
+
+pub returns : goal.returns
+returns g c =
+    let state = g.P.Keeper.state in
+    let top = c.history_top.ensures in
+    record {
+      listed = ((λ none. (top.refused none).0, top.accepted), top.status);
+      unread = refl;
+      reads = refl;
+      writes = (top.write_fault, top.unfailed_write);
+      keeper = (λ is. (top.keeper_fault is).0, λ not. (top.unfailed_keeper not).0);
+      untouched = λ none. (IsSameKeeper-same state c.args.host.now.keeper c.history_top.new.keeper (top.refused none).1, (top.refused none).2);
+      usage_said = top.usage;
+      usage_cut = top.usage_cut;
+      shows = λ call asked tells. record {
+        shown = λ is. top.shown call asked is tells;
+        keeper_cut = λ is. elim (top.keeper_cut call asked is tells) [
+          | inl idle ↦ inl (ap g.K.Sink.written idle.0, idle.1)
+          | inr front ↦ inr front
+        ];
+        write_cut = λ is. top.write_cut call asked is tells;
+        damaged = λ is. top.damaged call asked is tells;
+        memory_cut = λ is. elim (top.memory_cut call asked is tells) [
+          | inl idle ↦ inl (ap g.K.Sink.written idle.0, idle.1)
+          | inr front ↦ inr front
+        ];
+        same = top.same call asked tells;
+      };
+      steps_within = top.steps;
+    }

@@ -1,0 +1,23 @@
+//! The program that shows a history, over any host.
+ghost use Rattle.hippo_history_top.specs.Calls.{HistoryCallEnds};
+
+use crate::top::history_top;
+use hippo_io::{Sink, Source};
+use hippo_keeper::Keeper;
+use hippo_program_start::{Host, Program};
+use hippo_values::Txt;
+use std::sync::ledger::Ledger;
+
+/// The program `hippo_history`: [`history_top`] on a host. It reads no input.
+pub struct History;
+
+impl Program for History {
+    ghost Answers = { HistoryCallEnds };
+
+    fn call<S: Source, K: Sink, P: Keeper, L: Ledger>(
+        words: &[Txt],
+        host: &mut Host<S, K, P, L>,
+    ) -> u8 {
+        history_top(host.alloc, words, &mut host.sink, &mut host.keeper, &mut host.steps)
+    }
+}
