@@ -3,7 +3,7 @@ ghost use Rattle.hippo_history_top.specs.Calls.{HistoryCallEnds};
 
 use crate::top::history_top;
 use hippo_io::{Sink, Source};
-use hippo_keeper::Keeper;
+use hippo_keeper::CountedKeeper;
 use hippo_program_start::{Host, Program};
 use hippo_values::Txt;
 use std::sync::ledger::Ledger;
@@ -14,10 +14,16 @@ pub struct History;
 impl Program for History {
     ghost Answers = { HistoryCallEnds };
 
-    fn call<S: Source, K: Sink, P: Keeper, L: Ledger>(
+    fn call<S: Source, K: Sink, P: CountedKeeper<L>, L: Ledger>(
         words: &[Txt],
         host: &mut Host<S, K, P, L>,
     ) -> u8 {
-        history_top(host.alloc, words, &mut host.sink, &mut host.keeper, &mut host.steps)
+        history_top(
+            host.alloc,
+            words,
+            &mut host.sink,
+            &mut host.keeper,
+            &mut host.steps,
+        )
     }
 }

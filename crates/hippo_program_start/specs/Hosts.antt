@@ -2,7 +2,7 @@
 use Rattle.std.specs.Prelude.{◌≡◌, ◌↔◌, ℕ, List, Option}
 use Rattle.hippo_values.specs.Texts.{Txt}
 use Rattle.hippo_io.specs.Adapters.{stream_reads, stream_accepted, stream_faults}
-use Rattle.hippo_io.specs.Inputs.{Reads}
+use Rattle.hippo_io.specs.Inputs.{ReadSoFar}
 use Rattle.hippo_keeper.specs.Keeping.{Store, KeeperState}
 use Rattle.hippo_program_start.specs.Statuses.{FaultCounts, fault_counts}
 use Rattle.hippo_program_start.specs.declared.ended.Ended.{Ended}
@@ -10,7 +10,7 @@ use Rattle.hippo_program_start.specs.declared.ended.Ended.{Ended}
 -- a program's input: the bytes that are left, if they are known, and what reads have returned
 pub record InputState : Type 0 where
   pub left : Option Txt
-  pub reads : Reads
+  pub reads : ReadSoFar
 
 -- a program's host: its input, the bytes written to its output, how often these failed, its keeper,
 -- and the number of steps so far
@@ -21,7 +21,7 @@ pub record HostState : Type 1 where
   pub keeper : KeeperState
   pub steps : ℕ
 
-abbrev pub input_state : Option Txt → Reads → InputState
+abbrev pub input_state : Option Txt → ReadSoFar → InputState
 input_state left reads = record { left = left; reads = reads }
 
 abbrev pub host_state : InputState → Option Txt → FaultCounts → KeeperState → ℕ → HostState
@@ -56,7 +56,7 @@ abbrev pub ended_status : {P : Type 0} → Ended P → ℕ
 ended_status ended = ended.status
 
 -- what the reads of its standard input have returned
-abbrev pub ended_reads : {P : Type 0} → Ended P → Reads
+abbrev pub ended_reads : {P : Type 0} → Ended P → ReadSoFar
 ended_reads ended = stream_reads ended.source
 
 -- the bytes that its standard output has accepted

@@ -6,7 +6,7 @@ ghost use Rattle.hippo_program_start.specs.Statuses.{fault_counts};
 
 use crate::host::Host;
 use hippo_io::{Sink, Source};
-use hippo_keeper::Keeper;
+use hippo_keeper::CountedKeeper;
 use hippo_values::Txt;
 use std::sync::ledger::Ledger;
 
@@ -17,7 +17,7 @@ pub trait Program {
 
     /// Does what the words ask for, and returns the exit status. The keeper must be neither started
     /// nor spent nor closed.
-    fn call<S: Source, K: Sink, P: Keeper, L: Ledger>(
+    fn call<S: Source, K: Sink, P: CountedKeeper<L>, L: Ledger>(
         words: &[Txt],
         host: &mut Host<S, K, P, L>,
     ) -> u8

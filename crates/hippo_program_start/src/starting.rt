@@ -10,7 +10,7 @@ use crate::ended::Ended;
 use crate::host::Host;
 use crate::program::Program;
 use hippo_io::{StdSink, StdSource};
-use hippo_keeper::{Keeper, Steps};
+use hippo_keeper::{CountedKeeper, Steps};
 use hippo_values::{Memory, Sequence, Txt};
 use std::rt::HostRuntime;
 use std::sync::ledger::{Blank, Ledger};
@@ -43,7 +43,11 @@ fn words(rt: &HostRuntime) -> Result<Words, Memory> {
 /// It ends with the status that the program returns. If memory runs out for the words, it ends with
 /// [`NO_MEMORY`], and nothing is read, written or stored. The contract says of the streams and of
 /// the keeper in the result what the program's contract says of its host.
-pub fn start<P: Program, Q: Keeper, L: Ledger>(rt: HostRuntime, keeper: Q, blank: Blank) -> Ended<Q>
+pub fn start<P: Program, Q: CountedKeeper<L>, L: Ledger>(
+    rt: HostRuntime,
+    keeper: Q,
+    blank: Blank,
+) -> Ended<Q>
     requires ready { IsReady false (Q.state keeper) }
     requires name { blank.name ≡ L.name }
     requires parts { blank.parts ≡ L.parts }

@@ -3,7 +3,7 @@ ghost use Rattle.hippo_serve.specs.Calls.{CallEnds};
 
 use crate::top::hippo_top;
 use hippo_io::{Sink, Source};
-use hippo_keeper::Keeper;
+use hippo_keeper::CountedKeeper;
 use hippo_program_start::{Host, Program};
 use hippo_values::Txt;
 use std::sync::ledger::Ledger;
@@ -14,7 +14,7 @@ pub struct Hippo;
 impl Program for Hippo {
     ghost Answers = { CallEnds };
 
-    fn call<S: Source, K: Sink, P: Keeper, L: Ledger>(
+    fn call<S: Source, K: Sink, P: CountedKeeper<L>, L: Ledger>(
         words: &[Txt],
         host: &mut Host<S, K, P, L>,
     ) -> u8 {

@@ -5,7 +5,7 @@
 ghost use Rattle.std.specs.Prelude.{◌≡◌, ◌⊎◌, IfOk, length, min};
 
 use hippo_io::{Failed, Sink, Source, write_whole};
-use hippo_keeper::{Keeper, KeeperFails, MemoryKeeper};
+use hippo_keeper::{CountedKeeper, KeeperFails, MemoryKeeper};
 use hippo_program_start::{Ended, Host, Program, start};
 use hippo_values::Txt;
 use std::marker::Brand;
@@ -30,7 +30,7 @@ impl Program for Echo {
     ghost Answers = { λ words status before after.
         (status ≡ min 255 (length words)) ⊎ (status ≡ 255) };
 
-    fn call<S: Source, K: Sink, P: Keeper, L: Ledger>(
+    fn call<S: Source, K: Sink, P: CountedKeeper<L>, L: Ledger>(
         words: &[Txt],
         host: &mut Host<S, K, P, L>,
     ) -> u8 {
