@@ -51,6 +51,7 @@ as_it_is started closed result before after call = record {
   closed_is = refl;
   spent_is = call.spent_is;
   told = call.told;
+  telling = call.telling;
   faults = call.faults;
 }
 
@@ -67,6 +68,7 @@ module _ (name : Txt) (view : View) (state : State) (before loaded after : Keepe
         closed_is = ready.not_closed;
         spent_is = loads.call.spent_is;
         told = loads.call.told;
+        telling = loads.call.telling;
         faults = loads.call.faults;
       } in
       as_it_is true false (ending_as_call result) before after (IsAfterCall-then {A = Unit {0}} false (Ok tt) (ending_as_call result) before loaded after refl first shows.call)
@@ -180,6 +182,7 @@ module _ (name : Txt) (view : View) (before after : KeeperState) (written writte
         closed_is = refl;
         spent_is = call.spent_is;
         told = call.told;
+        telling = call.telling;
         faults = record {
           cause = λ failed. absurd (false≢true failed);
           unfailed = λ fine. call.faults.unfailed refl;

@@ -5,6 +5,7 @@ ghost use Rattle.hippo_io.specs.Faults.{HasRisen};
 ghost use Rattle.hippo_io.specs.Told.{Appends, AppendsFront};
 ghost use Rattle.hippo_keeper.specs.Keeping.{IsReady, IsAfterCall};
 ghost use Rattle.hippo_keeper.specs.Selecting.{stored_versions};
+ghost use Rattle.hippo_keeper.specs.Telling.{TellsOnceStarted};
 ghost use Rattle.hippo_policy.specs.Books.{BookRepresents};
 ghost use Rattle.hippo_program_args.specs.Starting.{IsIdle, SaysDamaged, BeginsDamaged};
 ghost use Rattle.hippo_history_top.specs.Ruling.{rules_by_names};
@@ -101,6 +102,7 @@ fn show<K: Sink, P: CountedKeeper<L>, L: Ledger>(
         (P.state keeper.old) (P.state keeper.new) (K.written sink.old) (K.written sink.new) }
     ensures idle { (P.state keeper.new).tells
         → IsIdle store.now (P.state keeper.old) (P.state keeper.new) }
+    ensures tells { TellsOnceStarted store.now (P.state keeper.old) (P.state keeper.new) }
     ensures writes { CountsWrites (Some result) (K.faults sink.old) (K.faults sink.new) }
     ensures steps { (P.state keeper.new).tells →
         steps.new ≤ steps.old + 2 * stored_versions (P.state keeper.new).kept }
@@ -146,6 +148,11 @@ pub fn history_top<K: Sink, P: CountedKeeper<L>, L: Ledger>(
     ensures usage { result ≡ 2 → Appends (K.written sink.old) (K.written sink.new) showing_usage }
     ensures usage_cut { asked_of words.now ≡ None → result ≡ 5 →
         AppendsFront (K.written sink.old) (K.written sink.new) showing_usage }
+
+    // On a clean disk the store's contents are known, if all that a start may find is nothing or a
+    // history. In memory they are always known.
+    ensures tells { (call : AskedCall) → asked_of words.now ≡ Some call →
+        TellsOnceStarted call.store (P.state keeper.old) (P.state keeper.new) }
 
     // What is shown, if the store's contents are known, of a history that a start may find.
     ensures shown { (call : AskedCall) → asked_of words.now ≡ Some call → result ≡ 0

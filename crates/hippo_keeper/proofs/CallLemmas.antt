@@ -4,7 +4,7 @@ use Rattle.std.proofs.lemmas.Bool.{false≢true}
 use Rattle.hippo_io.specs.Faults.{HasRisen}
 use Rattle.hippo_keeper.specs.declared.faults.KeeperFault.{KeeperFault}
 use Rattle.hippo_keeper.specs.Answering.{has_failed}
-use Rattle.hippo_keeper.specs.Keeping.{KeeperState, IsReady, IsAfterCall, Stays, KeepsSame}
+use Rattle.hippo_keeper.specs.Keeping.{KeeperState, HasToTell, KeepsTelling, IsReady, IsAfterCall, Stays, KeepsSame}
 
 -- a keeper keeps the same if nothing happens
 pub KeepsSame-here : (keeper : KeeperState) → KeepsSame keeper keeper
@@ -20,6 +20,18 @@ KeepsSame-then first second third one other = record {
 pub KeepsSame-Stays : (before after : KeeperState) → Stays before after → KeepsSame before after
 KeepsSame-Stays before after stays = record { same = stays.same; stop = stays.stop; some = λ some. stays.some }
 
+-- nothing happens to a keeper that tells where it has to
+pub KeepsTelling-here : (keeper : KeeperState) → HasToTell keeper → KeepsTelling keeper keeper
+KeepsTelling-here keeper has_to = record { clean = λ clean. clean; own = λ own. own; memory = λ memory. memory; has_to = has_to }
+
+pub KeepsTelling-then : (first second third : KeeperState) → KeepsTelling first second → KeepsTelling second third → KeepsTelling first third
+KeepsTelling-then first second third one other = record {
+  clean = λ clean. one.clean (other.clean clean);
+  own = λ own. other.own (one.own own);
+  memory = λ memory. other.memory (one.memory memory);
+  has_to = other.has_to;
+}
+
 -- a call that did not fail, followed by another call
 pub IsAfterCall-then : {A B : Type 0} (closed : Bool) (first : Result A KeeperFault) (second : Result B KeeperFault) (before mid after : KeeperState) → has_failed first ≡ false → IsAfterCall true false first before mid → IsAfterCall true closed second mid after → IsAfterCall true closed second before after
 IsAfterCall-then closed first second before mid after good one other =
@@ -30,6 +42,7 @@ IsAfterCall-then closed first second before mid after good one other =
       closed_is = other.closed_is;
       spent_is = other.spent_is;
       told = λ tells. one.told (other.told tells);
+      telling = KeepsTelling-then before mid after one.telling other.telling;
       faults = record {
         cause = λ failed. subst (λ (n : ℕ). HasRisen n after.faults) same (other.faults.cause failed);
         unfailed = λ fine. other.faults.unfailed fine ∙ same;
@@ -45,6 +58,7 @@ IsAfterCall-as started closed one other before after same call = record {
   closed_is = call.closed_is;
   spent_is = call.spent_is ∙ sym same;
   told = call.told;
+  telling = call.telling;
   faults = record {
     cause = λ failed. call.faults.cause (sym same ∙ failed);
     unfailed = λ fine. call.faults.unfailed (sym same ∙ fine);
@@ -60,6 +74,7 @@ IsAfterCall-none answer keeper good ready = record {
   closed_is = ready.not_closed;
   spent_is = ready.not_spent ∙ sym good;
   told = λ tells. tells;
+  telling = KeepsTelling-here keeper ready.has_to_tell;
   faults = record { cause = λ failed. absurd (false≢true (sym good ∙ failed)); unfailed = λ fine. refl; rises = omega arith };
 }
 
@@ -70,4 +85,5 @@ IsReady-after result before after good call = record {
   started_is = call.started_is;
   not_closed = call.closed_is;
   not_spent = call.spent_is ∙ good;
+  has_to_tell = call.telling.has_to;
 }

@@ -4,4 +4,5 @@ mod PagesLemmas
 mod PickLemmas
 pub mod StoredLemmas
 pub mod CallLemmas
+pub mod TellingLemmas
 pub mod Results

@@ -44,10 +44,31 @@ pub record KeeperState : Type 1 where
   pub survives : Survivors
   -- the lists that a start with this name may find
   pub finds : List ℕ → Survivors
+  -- the disk has given back what was written so far, and the store is open. A call may end this,
+  -- and no call begins it.
+  pub clean : Type 0
+  -- the store was opened, and held nothing then or what such a keeper had stored
+  pub own : Type 0
+  -- the store was opened, and is in memory
+  pub in_memory : Type 0
+  -- whatever a start with this name may find is nothing or what such a keeper had stored
+  pub finds_own : List ℕ → Type 0
   -- how often a call failed; the count stops at its highest value
   pub faults : ℕ
   -- the invariant of the keeper between calls
   pub sound : Type 0
+
+-- where a keeper has to tell: over a store of its own on a clean disk, and over a store in memory
+pub record HasToTell (keeper : KeeperState) : Type 0 where
+  pub over_disk : keeper.clean → keeper.own → keeper.tells
+  pub over_memory : keeper.in_memory → keeper.tells
+
+-- a call cleans no disk, and leaves the store where it is and whose it is
+pub record KeepsTelling (before after : KeeperState) : Type 0 where
+  pub clean : after.clean → before.clean
+  pub own : before.own → after.own
+  pub memory : before.in_memory → after.in_memory
+  pub has_to : HasToTell after
 
 -- a call may be made on the keeper: its invariant holds, it is neither closed nor spent, and it is
 -- started or not, as given
@@ -56,6 +77,7 @@ pub record IsReady (is_started : Bool) (keeper : KeeperState) : Type 0 where
   pub started_is : keeper.started ≡ is_started
   pub not_closed : keeper.closed ≡ false
   pub not_spent : keeper.spent ≡ false
+  pub has_to_tell : HasToTell keeper
 
 -- the count of faults rises if the call failed, and stays the same on any other answer
 pub record CountsFaults {A : Type 0} (result : Result A KeeperFault) (before after : ℕ)
@@ -65,8 +87,8 @@ pub record CountsFaults {A : Type 0} (result : Result A KeeperFault) (before aft
   pub rises : before ≤ after
 
 -- what holds after a call on a keeper, whatever it answers. The keeper's invariant holds; it is
--- started and closed as given; it is spent exactly when the call failed; and its contents are known
--- only if they were known before.
+-- started and closed as given; it is spent exactly when the call failed; its contents are known
+-- only if they were known before, and wherever it has to tell.
 pub record IsAfterCall {A : Type 0} (is_started is_closed : Bool) (result : Result A KeeperFault)
     (before after : KeeperState) : Type 0 where
   pub is_sound : after.sound
@@ -74,6 +96,7 @@ pub record IsAfterCall {A : Type 0} (is_started is_closed : Bool) (result : Resu
   pub closed_is : after.closed ≡ is_closed
   pub spent_is : after.spent ≡ has_failed result
   pub told : after.tells → before.tells
+  pub telling : KeepsTelling before after
   pub faults : CountsFaults result before.faults after.faults
 
 -- exactly the stored list survives a stop now
@@ -121,6 +144,8 @@ pub record Starts {A : Type 0} (name : List ℕ) (result : Result A KeeperFault)
     (before after : KeeperState) : Type 0 where
   pub call : IsAfterCall (is_ok result) (is_out_of_memory result) result before after
   pub ok : OnOk result (after.tells → HasFound (before.finds name) after)
+  pub own : OnOk result (after.clean → before.finds_own name → after.own)
+  pub unnamed : OnOk result (name ≡ [] → after.in_memory)
 
 -- what an append does
 pub record AppendsEntry {A : Type 0} (entry : StoredEntry) (result : Result A KeeperFault)

@@ -4,3 +4,4 @@ pub mod MemoryKeeping
 pub mod Paging
 pub mod Selecting
 pub mod Standings
+pub mod Telling

@@ -96,6 +96,10 @@ memory_keeper_state keeper = record {
   spent = keeper.calls.standing.spent;
   survives = SurvivesInMemory keeper;
   finds = FindsInMemory keeper;
+  clean = ⊤;
+  own = ⊤;
+  in_memory = ⊤;
+  finds_own = λ name. ⊤;
   faults = keeper.calls.standing.faults;
   sound = ⊤;
 }

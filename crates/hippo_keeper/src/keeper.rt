@@ -17,12 +17,14 @@ use std::sync::ledger::Ledger;
 /// answers `Failed` only when it also raises the count of faults; the keeper is then spent. Any
 /// other answer leaves the count unchanged. A start that answers `Memory` closes the keeper. No
 /// call may be made on a keeper that is spent or closed. A call's promises about the entries hold
-/// only if the store's contents are still known when the call returns.
+/// only if the store's contents are still known when the call returns. They are known while the
+/// disk is clean, if the store held nothing or a history at its start, and always in memory.
 pub trait Keeper {
     // The keeper as contracts see it.
     ghost state: { Self → KeeperState };
 
-    /// Opens the store with this name, and keeps the list of entries that it finds there.
+    /// Opens the store with this name, and keeps the list of entries that it finds there. The empty
+    /// name opens a store in memory.
     fn start(&mut self, alloc: Global, name: &str) -> Result<(), KeeperFault>
         requires ready { IsReady false (state self.old) }
         ensures starts { Starts name.now result (state self.old) (state self.new) };

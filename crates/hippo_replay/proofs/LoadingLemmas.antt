@@ -22,6 +22,7 @@ use Rattle.hippo_replay.specs.Loading.{load_as_call, judges, KeepsFound, IsLoade
 use Rattle.hippo_replay.specs.Reading.{load_fault, ReadsAllKept}
 use Rattle.hippo_replay.proofs.KeeperLemmas.{KeepsFound-after}
 use Rattle.hippo_keeper.proofs.CallLemmas.{IsAfterCall-then}
+use Rattle.hippo_keeper.proofs.TellingLemmas.{HasOpened-none, HasOpened-started}
 use Rattle.hippo_replay.proofs.ReadingLemmas.{versions-append, same_Err}
 use Rattle.hippo_keeper.proofs.Results.{err_of, well}
 
@@ -41,6 +42,7 @@ module _ (name : List ℕ) (before after : KeeperState) (steps : ℕ) where
     ok = tt;
     damaged = λ place is. absurd (undamaged fault place is);
     steps = λ tells. omega arith;
+    opened = HasOpened-none name before after starts.call.started_is;
   }
     where
       by_fault : (fault : KeeperFault) → IsAfterCall false (is_out_of_memory (err_of (Unit {0}) fault)) (err_of (Unit {0}) fault) before after → IsAfterCall after.started (not after.started && is_out_of_memory (load_as_call (err_of State (load_fault fault)))) (load_as_call (err_of State (load_fault fault))) before after
@@ -88,6 +90,7 @@ module _ (name : List ℕ) (before mid after : KeeperState) (steps_before steps_
     ok = is_loaded reads;
     damaged = λ place is. absurd cc;
     steps = steps_within (Ok done) reads;
+    opened = HasOpened-started name before mid after starts reads.hands.call.telling;
   }
   Loads-started (Err fault) reads = record {
     call = by_fault fault reads.hands.call;
@@ -96,6 +99,7 @@ module _ (name : List ℕ) (before mid after : KeeperState) (steps_before steps_
     ok = tt;
     damaged = λ place is tells. subst (λ (kept : Store). IsDamagedAt meaning kept place) (sym (reads.hands.stays tells).same) (reads.damaged place (ap Err (same_Err fault (Damaged place) is)) tells);
     steps = steps_within (Err fault) reads;
+    opened = HasOpened-started name before mid after starts reads.hands.call.telling;
   }
     where
       by_fault : (fault : LoadFault) → IsAfterCall true false (load_as_call (err_of (Unit {0}) fault)) mid after → IsAfterCall after.started (not after.started && is_out_of_memory (load_as_call (err_of State fault))) (load_as_call (err_of State fault)) before after
@@ -118,6 +122,7 @@ Loads-ready name result before after steps_before steps_after loads judged =
       started_is = started;
       not_closed = loads.call.closed_is ∙ (λ i. not (started i) && (judged_well result judged).1 i);
       not_spent = loads.call.spent_is ∙ (judged_well result judged).0;
+      has_to_tell = loads.call.telling.has_to;
     }
 
 module _ (name : List ℕ) (result : Result State LoadFault) (before after : KeeperState) (steps_before steps_after : ℕ) (loads : Loads name result before after steps_before steps_after) (tells : after.tells) where

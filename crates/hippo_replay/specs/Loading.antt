@@ -9,6 +9,7 @@ use Rattle.hippo_keeper.specs.declared.faults.KeeperFault.TheVariants as keeper_
 use Rattle.hippo_keeper.specs.Answering.{is_out_of_memory}
 use Rattle.hippo_keeper.specs.Keeping.{Store, Survivors, RisesAbove, KeeperState, IsAfterCall}
 use Rattle.hippo_keeper.specs.Selecting.{stored_versions}
+use Rattle.hippo_keeper.specs.Telling.{HasOpened}
 use Rattle.hippo_typing.specs.Meanings.{meaning}
 use Rattle.hippo_replay.specs.declared.faults.LoadFault.{LoadFault}
 use Rattle.hippo_replay.specs.declared.faults.LoadFault.TheVariants.{Keeper, Damaged, Memory}
@@ -63,3 +64,4 @@ pub record Loads (name : List ℕ) (result : Result State LoadFault) (before aft
   pub damaged : (place : ℕ) → result ≡ Err (Damaged place) → after.tells
       → IsDamagedAt meaning after.kept place
   pub steps : after.tells → steps_after ≤ steps_before + stored_versions after.kept
+  pub opened : HasOpened name before after

@@ -6,6 +6,7 @@ use Rattle.hippo_values.specs.Texts.{Txt}
 use Rattle.hippo_serve_args.specs.CommandLine.{call_of}
 use Rattle.hippo_io.specs.Told.{Appends, AppendsFront}
 use Rattle.hippo_keeper.specs.Keeping.{KeeperState}
+use Rattle.hippo_keeper.specs.Telling.{TellsOnceStarted}
 use Rattle.hippo_program_args.specs.Saying.{Says}
 use Rattle.hippo_program_args.specs.Starting.{IsIdle}
 use Rattle.hippo_serve_args.specs.declared.calls.Call.{Call}
@@ -59,6 +60,9 @@ module _ (words : List Txt) (call : Call) (asked : call_of words ≡ Some call) 
   run_as_asked ending status is unread unwritten setting job before after ends =
       subst (λ (n : ℕ). EndsAs (λ one. RunEnds one unread unwritten setting job (store_of words) before after) n) (sym is)
       (by_status (λ one. RunEnds one unread unwritten setting job (store_of words) before after) ending (subst (λ (name : Txt). RunEnds ending unread unwritten setting job name before after) store_is ends))
+
+  pub tells_as_asked : (before after : KeeperState) → TellsOnceStarted store before after → TellsOnceStarted (store_of words) before after
+  tells_as_asked before after tells = subst (λ (name : Txt). TellsOnceStarted name before after) store_is tells
 
   pub idle_as_asked : (before after : KeeperState) → IsIdle store before after → IsIdle (store_of words) before after
   idle_as_asked before after idle = subst (λ (name : Txt). IsIdle name before after) store_is idle

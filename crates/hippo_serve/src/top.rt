@@ -4,6 +4,7 @@ ghost use Rattle.hippo_io.specs.Faults.{HasRisen};
 ghost use Rattle.hippo_io.specs.Inputs.{ForEachInput};
 ghost use Rattle.hippo_io.specs.Told.{Appends, AppendsFront};
 ghost use Rattle.hippo_keeper.specs.Keeping.{IsReady};
+ghost use Rattle.hippo_keeper.specs.Telling.{TellsOnceStarted};
 ghost use Rattle.hippo_program_args.specs.Starting.{IsIdle, SaysDamaged};
 ghost use Rattle.hippo_serve_args.specs.CommandLine.{call_of};
 ghost use Rattle.hippo_serve_args.specs.declared.calls.Setting.{Setting};
@@ -79,6 +80,11 @@ pub fn hippo_top<S: Source, K: Sink, P: CountedKeeper<L>, L: Ledger>(
     ensures usage { result ≡ 2 → Appends (K.written sink.old) (K.written sink.new) usage }
     ensures usage_cut { call_of words.now ≡ None → result ≡ 5 →
         AppendsFront (K.written sink.old) (K.written sink.new) usage }
+
+    // Once the keeper is started, its store's contents are known: on a clean disk, if all that a
+    // start may find is nothing or a history; and always in memory.
+    ensures tells { TellsOnceStarted (store_of words.now) (P.state keeper.old)
+        (P.state keeper.new) }
 
     // For a run or a load, when the store's contents are known: what each status means, starting
     // from what a start may find. When the input and the output are known too, this includes which

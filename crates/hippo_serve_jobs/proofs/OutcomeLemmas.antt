@@ -40,6 +40,7 @@ module _ (name : Txt) (state : State) (left written : Option Txt) (before loaded
           started_is = loads.started refl;
           not_closed = loads.call.closed_is ∙ ap (λ (begun : Bool). not begun && false) (loads.started refl);
           not_spent = loads.call.spent_is;
+          has_to_tell = loads.call.telling.has_to;
         };
         told = λ tells. record { history = here.history; forms = here.told tells; stands = here.stands };
       }

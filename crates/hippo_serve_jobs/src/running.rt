@@ -3,6 +3,7 @@ ghost use Rattle.std.specs.Prelude.{◌≡◌, ◌≢◌, ℕ, List, Option, Som
 ghost use Rattle.hippo_io.specs.Faults.{HasRisen};
 ghost use Rattle.hippo_io.specs.Inputs.{ForEachInput};
 ghost use Rattle.hippo_keeper.specs.Keeping.{IsReady, IsAfterCall};
+ghost use Rattle.hippo_keeper.specs.Telling.{TellsOnceStarted};
 ghost use Rattle.hippo_program_args.specs.Starting.{IsIdle};
 ghost use Rattle.hippo_program_args.specs.declared.endings.Ending.TheVariants.{Refused, ReadFault, WriteFault, Damaged, NoMemory, TooMuch};
 ghost use Rattle.hippo_program_args.specs.Endings.{status_of, ending_as_call};
@@ -54,6 +55,7 @@ pub fn run<S: Source, K: Sink, P: CountedKeeper<L>, L: Ledger>(
         (outside left (K.written sink.old) (P.state keeper.old) steps.old)
         (outside left' (K.written sink.new) (P.state keeper.new) steps.new)) }
     ensures damaged { result ≡ Damaged → (P.state keeper.new).tells → source.new ≡ source.old }
+    ensures tells { TellsOnceStarted store.now (P.state keeper.old) (P.state keeper.new) }
     ensures unread { result ≡ NoMemory → source.new ≡ source.old }
     ensures unwritten { result ≡ NoMemory → sink.new ≡ sink.old }
     ensures read { ForEachInput (S.left source.old) (S.reads source.old) (S.left source.new)
@@ -98,6 +100,7 @@ pub fn check<K: Sink, P: CountedKeeper<L>, L: Ledger>(
         (outside left (K.written sink.new) (P.state keeper.new) steps.new) }
     ensures idle { (P.state keeper.new).tells
         → IsIdle store.now (P.state keeper.old) (P.state keeper.new) }
+    ensures tells { TellsOnceStarted store.now (P.state keeper.old) (P.state keeper.new) }
     ensures unwritten { result ≡ NoMemory → sink.new ≡ sink.old }
     ensures write_fault { result ≡ WriteFault → HasRisen (K.faults sink.old) (K.faults sink.new) }
     ensures unfailed_write { result ≢ WriteFault → K.faults sink.new ≡ K.faults sink.old }

@@ -18,11 +18,11 @@ use Rattle.hippo_keeper.specs.Keeping.{Store, RisesAbove, next_number}
 use Rattle.hippo_keeper.specs.declared.faults.KeeperFault.{KeeperFault}
 use Rattle.hippo_keeper.specs.declared.faults.KeeperFault.TheVariants.{Failed, Memory}
 use Rattle.hippo_sqlite_table.specs.Tables.{values_of, row_of, stored_row, entries_in, history_schema}
-use Rattle.hippo_sqlite.specs.Contents.{entries_of, HasHistory, StartsWell, Rests, Contents, connection_contents, OnlyKept, IsSame, AppendsTo, LeavesContents}
+use Rattle.hippo_sqlite.specs.Contents.{entries_of, HasHistory, StartsWell, Rests, Contents, connection_contents, OnlyKept, IsSame, MustTell, AppendsTo, LeavesContents}
 use Rattle.hippo_sqlite.specs.Outcomes.{append_result, HasExecuted, HasLooked, IsLinked}
 use Rattle.hippo_sqlite_table.specs.Queries.{create_sql, insert_sql}
 use Rattle.hippo_sqlite_table.proofs.OrderLemmas.{entries_rise}
-use Rattle.hippo_sqlite.proofs.StateLemmas.{IsLeft, IsNext, left_open, executes_left, executes_open, shown_open, shown_same, query_left, left_rests, appends, may_commit, may_append, prepares, kept_is, same_entries}
+use Rattle.hippo_sqlite.proofs.StateLemmas.{IsLeft, IsNext, left_open, executes_left, executes_open, shown_open, shown_same, query_left, left_rests, appends, may_commit, may_append, prepares, kept_is, same_entries, starts_well}
 
 abbrev ExecutesSome : List ℕ → Row → State → State → Result (Unit {0}) KeeperFault → Type 0
 ExecutesSome text params old new result = (outcome : Result ℕ Error) × Executes text params old new outcome × (result ≡ append_result outcome)
@@ -43,6 +43,10 @@ ran_well text params old new (Err e) ran is = absurd cc
 ran_badly : (text : List ℕ) (params : Row) (old new : State) (fault : KeeperFault) (outcome : Result ℕ Error) → Executes text params old new outcome → ◌≡◌ {A = Result (Unit {0}) KeeperFault} (Err fault) (append_result outcome) → IsLeft old new
 ran_badly text params old new fault (Ok count) ran is = absurd cc
 ran_badly text params old new fault (Err e) ran is = executes_left text params old new e ran
+
+-- a connection on a clean disk tells, if what it opened started well
+must_tell : {S : Type 0} {g : store.Ghosts S} {now told opened : Held S} → MustTell (connection_contents g now told opened)
+must_tell = record { over_disk = λ clean own. (clean.0, clean.1, own); over_memory = λ none. absurd none }
 
 module _ {S : Type 0} (g : store.Ghosts S)
     (settled : (s : S) (trees : Trees) → IsTrue (g.view s).is_open → g.recovers s trees → trees ≡ (g.view s).committed)
@@ -102,7 +106,14 @@ module _ {S : Type 0} (g : store.Ghosts S)
         let made = λ (clean : HasCleanDisk after) (is_open : IsTrue after.is_open) (well : StartsWell (state g opened).now).
         appends before after (ran clean).0 entry (rests (early clean) (was_open clean is_open) well) (next (early clean, was_open clean is_open, well)) (ran clean).1 in
         record {
-          on = record { told = λ t. (early t.0, was_open t.0 t.1, t.2); rests = λ _. (refl, λ clean is_open well. (made clean is_open well).0) };
+          on = record {
+            told = λ t. (early t.0, was_open t.0 t.1, t.2);
+            rests = λ _. (refl, λ clean is_open well. (made clean is_open well).0);
+            clean = λ t. (early t.0, was_open t.0 t.1);
+            own = λ own. own;
+            memory = λ memory. memory;
+            must = must_tell;
+          };
           longer = λ t. (made t.0 t.1 t.2).1;
           only = λ t. only_kept t.1 (made t.0 t.1 t.2).0;
           kept = λ failed. absurd cc;
@@ -127,7 +138,14 @@ module _ {S : Type 0} (g : store.Ghosts S)
 
     appends_badly : AppendsTo entry (err_of (Unit {0}) Failed) was (connection_contents g new old opened)
     appends_badly = record {
-      on = record { told = λ t. (early t.0, t.1, t.2); rests = λ other. absurd cc };
+      on = record {
+        told = λ t. (early t.0, t.1, t.2);
+        rests = λ other. absurd cc;
+        clean = λ t. (early t.0, t.1);
+        own = λ own. own;
+        memory = λ memory. memory;
+        must = must_tell;
+      };
       longer = tt;
       only = tt;
       kept = λ failed. refl;
@@ -145,7 +163,14 @@ module _ {S : Type 0} (g : store.Ghosts S)
         let made = λ (clean : HasCleanDisk after) (is_open : IsTrue after.is_open) (well : StartsWell (state g opened).now).
         left_rests before after (rests (early clean) (was_open clean is_open) well) (ran clean) is_open in
         record {
-          on = record { told = λ t. (early t.0, was_open t.0 t.1, t.2); rests = λ _. (refl, λ clean is_open well. (made clean is_open well).0) };
+          on = record {
+            told = λ t. (early t.0, was_open t.0 t.1, t.2);
+            rests = λ _. (refl, λ clean is_open well. (made clean is_open well).0);
+            clean = λ t. (early t.0, was_open t.0 t.1);
+            own = λ own. own;
+            memory = λ memory. memory;
+            must = must_tell;
+          };
           longer = tt;
           only = tt;
           kept = λ failed. absurd cc;
@@ -188,13 +213,27 @@ module _ {S : Type 0} (g : store.Ghosts S)
         let made = λ (clean : HasCleanDisk after) (is_open : IsTrue after.is_open) (well : StartsWell (state g opened).now).
         left_rests before after (it clean is_open well) (look_left clean (it clean is_open well)) is_open in
         record {
-          on = record { told = λ t. (looks_early t.0, look_open t.0 t.1, t.2); rests = λ _. (refl, λ clean is_open well. (made clean is_open well).0) };
+          on = record {
+            told = λ t. (looks_early t.0, look_open t.0 t.1, t.2);
+            rests = λ _. (refl, λ clean is_open well. (made clean is_open well).0);
+            clean = λ t. (looks_early t.0, look_open t.0 t.1);
+            own = λ own. own;
+            memory = λ memory. memory;
+            must = must_tell;
+          };
           same = λ t. same_committed (look_open t.0 t.1) t.1 (made t.0 t.1 t.2).0 (made t.0 t.1 t.2).1;
         }
 
     looks_badly : (A : Type 0) → LeavesContents (err_of A Failed) was (connection_contents g new old opened)
     looks_badly A = record {
-      on = record { told = λ t. (looks_early t.0, t.1, t.2); rests = λ other. absurd cc };
+      on = record {
+        told = λ t. (looks_early t.0, t.1, t.2);
+        rests = λ other. absurd cc;
+        clean = λ t. (looks_early t.0, t.1);
+        own = λ own. own;
+        memory = λ memory. memory;
+        must = must_tell;
+      };
       same = λ t.
           let it = rests (looks_early t.0) t.1 t.2 in
           same_as_told t.1 t.0 it (λ trees leaves. elim (survives.crash t.0 trees leaves) [ inl left ↦ left | inr commits ↦ absurd (never_commits text params before trees (plain_so it) commits) ]);
@@ -221,6 +260,9 @@ module _ {S : Type 0} (g : store.Ghosts S)
         order = λ t. let it = (made t.0 t.2).0 in subst (RisesAbove 0) (sym (kept_is after.committed it.history)) (entries_rise it.history.rows it.history.order.rise);
         only = λ t. only_kept t.1 (made t.0 t.2).0;
         empty = λ t none. (made t.0 t.2).1 ∙ ap (λ schema. entries_of schema (state g opened).committed.trees) (ap (λ (db : Database). db.schema) (sym (opens (falls t.0)).0.clean) ∙ none);
+        clean_disk = λ t. falls t.0;
+        own = λ t held. let o = opens (falls t.0) in starts_well (state g opened).now (state g opened).committed o.0.clean (o.1 o.0.is_open).1 held;
+        must = must_tell;
       }
 
 pub ok_weaker : {A E : Type 0} (result : Result A E) (P Q : A → Type 0) → ((value : A) → P value → Q value) → IfOk result P → IfOk result Q
@@ -254,7 +296,7 @@ module _ {S : Type 0} (g : store.Ghosts S)
   -- the store is not queried at all
   pub look_away : {A : Type 0} (value : A) → LeavesContents (ok_of value) (connection_contents g old told_before opened) (connection_contents g old told_before opened)
   look_away value = record {
-    on = record { told = λ t. t; rests = λ _. rests };
+    on = record { told = λ t. t; rests = λ _. rests; clean = λ t. t; own = λ own. own; memory = λ memory. memory; must = must_tell };
     same = λ t.
         let open_now = subst (λ (h : Held S). IsTrue (state g h).is_open) rests.0 t.1 in
         let only = only_kept g settled stays something old old opened open_now (rests.1 t.0 open_now t.2) in

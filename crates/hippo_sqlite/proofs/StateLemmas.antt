@@ -13,7 +13,7 @@ use Rattle.sqlite_schema.specs.declared.command.Command.{Command}
 use Rattle.sqlite_schema.specs.declared.command.Command.TheVariants.{Select, Insert, InsertOr, Update, Delete, CreateTable, CreateIndex, DropTable, DropIndex, Begin, Commit, Rollback, Savepoint, Release, RollbackTo, Nothing, CreateView, DropView, Rows}
 use Rattle.sqlite_schema.specs.declared.command.Returning.{Returning}
 use Rattle.sqlite_schema.specs.Names.{same_name}
-use Rattle.sqlite_catalog.specs.Listing.{IsSound, IsTableRow, is_table_row}
+use Rattle.sqlite_catalog.specs.Listing.{IsSound, IsTableRow, is_table_row, IsIndexRow, is_index_row, IsViewRow, is_view_row}
 use Rattle.sqlite_resolve.specs.declared.compiled.Compiled.{Compiled}
 use Rattle.sqlite.specs.declared.error.Error.{Error}
 use Rattle.sqlite.specs.declared.run.Mode.{Mode}
@@ -26,7 +26,7 @@ use Rattle.sqlite.proofs.Callers.{IsPlain, command_of, statement_of, runs_as}
 use Rattle.hippo_model.specs.declared.stored.StoredEntry.{StoredEntry}
 use Rattle.hippo_keeper.specs.Keeping.{Store, next_number}
 use Rattle.hippo_sqlite_table.specs.Tables.{values_of, stored_row, row_of, entries_in, history_schema, empty_schema}
-use Rattle.hippo_sqlite.specs.Contents.{entries_of, IsKeptIn, HasHistory, StartsWell, Rests}
+use Rattle.hippo_sqlite.specs.Contents.{entries_of, IsKeptIn, HasHistory, StartsWell, HoldsWell, Rests}
 use Rattle.hippo_sqlite_table.specs.Queries.{create_sql, insert_sql}
 use Rattle.hippo_sqlite_table.proofs.TextLemmas.{given, create_is, made_is, insert_is, create_plain, made_plain, insert_plain, statement_is}
 use Rattle.hippo_sqlite_table.proofs.EditLemmas.{inserts, creates}
@@ -159,6 +159,39 @@ pub same_entries : (a b : Schema) (trees : Trees) → IsSound a trees → IsSoun
 same_entries a b trees is too =
     let tables = same_tables (filter is_table_row (trees catalog_tree)) a.tables b.tables is.lists.listed.tables too.lists.listed.tables in
     ap (λ list. entries_of (record { tables = list; indexes = []; views = [] }) trees) tables
+
+-- ---- a store of one's own
+
+-- where a list goes with no members, it is empty, and so is what else goes with it
+none_beside : {A B C : Type 0} (R : A → B → Type 0) (Q : A → C → Type 0) (list : List A) (others : List C) → AllZip R list [] → AllZip Q list others → others ≡ []
+none_beside R Q [] [] is too = refl
+none_beside R Q [] (other ∷ others) is too = absurd too
+none_beside R Q (it ∷ list) others is too = absurd is
+
+-- only one schema is sound for trees, if it has tables alone
+one_schema : (a b : Schema) (trees : Trees) → IsSound a trees → IsSound b trees → a.indexes ≡ [] → a.views ≡ [] → b ≡ a
+one_schema a b trees is too no_index no_view =
+    let one = is.lists.listed in
+    let other = too.lists.listed in
+    let tables = same_tables (filter is_table_row (trees catalog_tree)) b.tables a.tables other.tables one.tables in
+    let indexes : b.indexes ≡ [] = none_beside (IsIndexRow a.tables) (IsIndexRow b.tables) (filter is_index_row (trees catalog_tree)) b.indexes (subst (AllZip (IsIndexRow a.tables) (filter is_index_row (trees catalog_tree))) no_index one.indexes) other.indexes in
+    let views : b.views ≡ [] = none_beside IsViewRow IsViewRow (filter is_view_row (trees catalog_tree)) b.views (subst (AllZip IsViewRow (filter is_view_row (trees catalog_tree))) no_view one.views) other.views in
+    λ i. record { tables = tables i; indexes = (indexes ∙ sym no_index) i; views = (views ∙ sym no_view) i }
+
+-- a database whose trees hold no table, or only that of the history, has that schema
+well_by : (a b : Schema) (trees : Trees) → IsSound a trees → IsSound b trees → StartsWell (record { schema = a; trees = trees }) → StartsWell (record { schema = b; trees = trees })
+well_by a b trees is too (inl none) =
+    inl (one_schema a b trees is too (ap (λ (s : Schema). s.indexes) none) (ap (λ (s : Schema). s.views) none) ∙ none)
+well_by a b trees is too (inr has) =
+    inr (record {
+      schema = one_schema a b trees is too (ap (λ (s : Schema). s.indexes) has.schema) (ap (λ (s : Schema). s.views) has.schema) ∙ has.schema;
+      rows = has.rows;
+      are = has.are;
+      order = has.order;
+    })
+
+pub starts_well : (now committed : Database) → now ≡ committed → IsDatabase committed → HoldsWell committed.trees → StartsWell now
+starts_well now committed same sound held = subst StartsWell (sym same) (well_by held.0 committed.schema committed.trees held.1 sound held.2)
 
 -- ---- an append
 

@@ -39,6 +39,12 @@ pub record HasHistory (db : Database) : Type 0 where
 abbrev pub StartsWell : Database → Type 0
 StartsWell db = (db.schema ≡ empty_schema) ⊎ HasHistory db
 
+-- the trees are those of a database with no table, or with only that of the history
+abbrev pub HoldsWell : Trees → Type 0
+HoldsWell trees =
+    (schema : Schema) × IsSound schema trees
+    × StartsWell (record { schema = schema; trees = trees })
+
 -- between calls: no transaction is open, and what was committed has the history
 pub record Rests (s : State) : Type 0 where
   pub autocommit : s.in_transaction ≡ false
@@ -52,6 +58,12 @@ pub record Contents : Type 1 where
   pub kept : Store
   pub survives : Survivors
   pub rests : Type 0
+  -- the disk has given back what was written so far, and the store is open
+  pub clean : Type 0
+  -- the store was opened, and had no table then, or only that of the history
+  pub own : Type 0
+  -- the store was opened, and is in memory
+  pub in_memory : Type 0
 
 -- the contents of a connection, from three of its states: now, after the last call that did not
 -- fail, and as it was opened
@@ -64,11 +76,34 @@ connection_contents g now told opened = record {
   rests = (told ≡ now) × (HasCleanDisk (state g now) → IsTrue (state g now).is_open
       → StartsWell (state g opened).now
       → Rests (state g now));
+  clean = HasCleanDisk (state g now) × IsTrue (state g told).is_open;
+  own = StartsWell (state g opened).now;
+  in_memory = ⊥;
 }
 
 -- without a connection, nothing is stored
 abbrev pub no_contents : Contents
-no_contents = record { tells = ⊤; kept = []; survives = λ entries. entries ≡ []; rests = ⊤ }
+no_contents = record {
+  tells = ⊤;
+  kept = [];
+  survives = λ entries. entries ≡ [];
+  rests = ⊤;
+  clean = ⊤;
+  own = ⊥;
+  in_memory = ⊥;
+}
+
+-- the contents are known over a store of the keeper's own on a clean disk, and in memory
+pub record MustTell (it : Contents) : Type 0 where
+  pub over_disk : it.clean → it.own → it.tells
+  pub over_memory : it.in_memory → it.tells
+
+-- no store was opened
+pub record IsUnopened (it : Contents) : Type 0 where
+  pub tells : it.tells
+  pub clean : it.clean
+  pub no_own : it.own → ⊥
+  pub no_memory : it.in_memory → ⊥
 
 -- exactly the stored list survives a stop now
 pub record OnlyKept (it : Contents) : Type 0 where
@@ -82,11 +117,16 @@ pub record IsSame (old new : Contents) : Type 0 where
   pub stop : (entries : Store) → new.survives entries → old.survives entries
   pub some : ∥ ((entries : Store) × new.survives entries) ∥₁
 
--- after any call: the contents are known only if they were known before, and unless the call
--- failed, the connection is at rest
+-- after any call: the contents are known only if they were known before, and where they must be;
+-- no disk got clean, and the store is where it was; unless the call failed, the connection is at
+-- rest
 pub record GoesOn {A : Type 0} (result : Result A KeeperFault) (old new : Contents) : Type 0 where
   pub told : new.tells → old.tells
   pub rests : has_failed result ≡ false → new.rests
+  pub clean : new.clean → old.clean
+  pub own : old.own → new.own
+  pub memory : old.in_memory → new.in_memory
+  pub must : MustTell new
 
 -- an append adds one entry after those that are stored. If it fails, the entry may or may not
 -- survive a stop; if it runs out of memory, it does nothing.

@@ -19,6 +19,9 @@ memory_contents it = record {
   survives = SurvivesInMemory it;
   rests = (it.calls.standing.started ≡ true) × (it.calls.standing.closed ≡ false)
       × (it.calls.standing.spent ≡ false) × (it.calls.failing ≡ []);
+  clean = ⊤;
+  own = ⊤;
+  in_memory = ⊤;
 }
 
 abbrev pub link_contents : {S : Type 0} → Ghosts S → Link S → Contents

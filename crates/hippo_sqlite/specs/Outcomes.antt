@@ -7,7 +7,7 @@ use Rattle.hippo_keeper.specs.Keeping.{RisesAbove}
 use Rattle.hippo_keeper.specs.declared.faults.KeeperFault.{KeeperFault}
 use Rattle.hippo_sqlite.specs.Standings.{fault_named}
 use Rattle.hippo_sqlite_table.specs.Tables.{empty_schema}
-use Rattle.hippo_sqlite.specs.Contents.{Contents, IsKeptIn, OnlyKept}
+use Rattle.hippo_sqlite.specs.Contents.{Contents, IsKeptIn, HoldsWell, OnlyKept, MustTell}
 
 abbrev pub append_result : Result ℕ Error → Result (Unit {0}) KeeperFault
 append_result (Ok count) = Ok tt
@@ -36,3 +36,6 @@ pub record IsLinked (opened : State) (it : Contents) : Type 0 where
   pub order : it.tells → RisesAbove 0 it.kept
   pub only : it.tells → OnlyKept it
   pub empty : it.tells → opened.now.schema ≡ empty_schema → it.kept ≡ []
+  pub clean_disk : it.clean → HasCleanDisk opened
+  pub own : it.clean → HoldsWell opened.committed.trees → it.own
+  pub must : MustTell it

@@ -1,8 +1,8 @@
 //! A keeper over a SQLite store.
-ghost use Rattle.std.specs.Prelude.{◌≡◌, ◌↔◌, ℕ, List, false, IfOk, OnOk, OnErr};
+ghost use Rattle.std.specs.Prelude.{◌≡◌, ◌↔◌, ℕ, List, [], false, IfOk, OnOk, OnErr};
 ghost use Rattle.hippo_keeper.specs.Keeping.{Store, IsReady};
 ghost use Rattle.hippo_sqlite.specs.Links.{link_contents};
-ghost use Rattle.hippo_sqlite.specs.Standings.{finds_by, sqlite_keeper_state, IsStarted};
+ghost use Rattle.hippo_sqlite.specs.Standings.{finds_by, finds_own_by, sqlite_keeper_state, IsStarted};
 
 use crate::link::Link;
 use crate::opener::Opener;
@@ -30,6 +30,8 @@ impl<O: Opener> SqliteKeeper<O> {
         ensures finds { (name : List ℕ) (entries : Store)
             → (⟦<SqliteKeeper<O> as Keeper>⟧.state result).finds name entries
             ↔ finds_by (O.finds opener) name entries }
+        ensures own { (name : List ℕ) → finds_own_by (O.finds opener) name
+            → (⟦<SqliteKeeper<O> as Keeper>⟧.state result).finds_own name }
     {
         SqliteKeeper {
             opener,
@@ -45,6 +47,7 @@ impl<O: Opener> SqliteKeeper<O> {
         ensures link { self.new.link ≡ self.old.link }
         ensures started { IfOk result (λ link. IsStarted
             (finds_by (O.finds self.old.opener) name.now)
+            (finds_own_by (O.finds self.old.opener) name.now) (name.now ≡ [])
             (link_contents O.Base.Store link)) }
     {
         if name.is_empty() {
@@ -59,6 +62,7 @@ impl<O: Opener> SqliteKeeper<O> {
         requires { O.used self.old.opener ≡ false }
         ensures standing { self.new.standing ≡ self.old.standing }
         ensures started { OnOk result (IsStarted (finds_by (O.finds self.old.opener) name.now)
+            (finds_own_by (O.finds self.old.opener) name.now) (name.now ≡ [])
             (link_contents O.Base.Store self.new.link)) }
         ensures kept { OnErr result (self.new.link ≡ self.old.link) }
     {
@@ -69,7 +73,7 @@ impl<O: Opener> SqliteKeeper<O> {
 
 impl<O: Opener> Keeper for SqliteKeeper<O> {
     ghost state = { λ keeper. sqlite_keeper_state keeper.standing (O.used keeper.opener)
-        (finds_by (O.finds keeper.opener))
+        (O.finds keeper.opener)
         (link_contents O.Base.Store keeper.link) };
 
     fn start(&mut self, alloc: Global, name: &str) -> Result<(), KeeperFault> {

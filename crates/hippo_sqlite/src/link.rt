@@ -1,5 +1,5 @@
 //! A keeper's connection to its store.
-ghost use Rattle.std.specs.Prelude.{◌≡◌, ◌+◌, ◌^◌, ◌<◌, ◌≤◌, true, false, Err, List, [], map, length, if◌then◌else◌, IfOk};
+ghost use Rattle.std.specs.Prelude.{◌≡◌, ◌+◌, ◌^◌, ◌<◌, ◌≤◌, true, false, Err, List, [], map, length, if◌then◌else◌, IfOk, ⊤};
 ghost use Rattle.sqlite.specs.State.{HasCleanDisk, Survives, CommitsShowing, Opens, IsLive};
 ghost use Rattle.sqlite.specs.Held.{state};
 ghost use Rattle.hippo_keeper.specs.Answering.{has_failed};
@@ -177,8 +177,8 @@ impl<S: Alter + Drop> Linked<S> {
 impl<S: Alter + Drop> Link<S> {
     /// A new store in memory.
     pub(crate) fn in_memory(alloc: Global) -> Result<Link<S>, KeeperFault>
-        ensures started { IfOk result (λ link. IsStarted
-            (λ entries. entries ≡ []) (link_contents S.Store link)) }
+        ensures started { IfOk result (λ link. IsStarted (λ entries. entries ≡ []) ⊤ ⊤
+            (link_contents S.Store link)) }
     {
         let mut keeper = MemoryKeeper::new(alloc, KeeperFails::new(alloc));
         match keeper.start(alloc, "") {

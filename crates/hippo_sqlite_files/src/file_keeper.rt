@@ -3,7 +3,7 @@ ghost use Rattle.std.specs.Prelude.{ℕ, ◌↔◌, List, false};
 ghost use Rattle.sqlite_wal.specs.Files.{image_at};
 ghost use Rattle.hippo_keeper.specs.Keeping.{Store, IsReady};
 ghost use Rattle.hippo_sqlite.specs.Openings.{IsFoundIn};
-ghost use Rattle.hippo_sqlite.specs.Standings.{finds_by};
+ghost use Rattle.hippo_sqlite.specs.Standings.{finds_by, finds_own_by};
 
 use hippo_keeper::{CountedKeeper, Keeper, KeeperFault, ReadQuery, ReadResult, Steps};
 use hippo_model::StoredEntry;
@@ -33,6 +33,9 @@ impl<B: Start> FileKeeper<B> {
         ensures finds { (name : List ℕ) (entries : Store)
             → (⟦<FileKeeper<B> as Keeper>⟧.state result).finds name entries
             ↔ finds_by (λ file trees. IsFoundIn (image_at B.Start) trees) name entries }
+        ensures own { (name : List ℕ)
+            → finds_own_by (λ file trees. IsFoundIn (image_at B.Start) trees) name
+            → (⟦<FileKeeper<B> as Keeper>⟧.state result).finds_own name }
     {
         FileKeeper {
             keeper: SqliteKeeper::new(FileOpener::new(runtime, start)),

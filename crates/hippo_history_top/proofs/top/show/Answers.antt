@@ -3,6 +3,7 @@ use Rattle.std.proofs.Common.{refl}
 use Rattle.hippo_replay.specs.declared.faults.LoadFault.{LoadFault}
 use Rattle.hippo_replay.proofs.LoadingLemmas.{Loads-ready}
 use Rattle.hippo_keeper.proofs.Results.{ok_of}
+use Rattle.hippo_keeper.proofs.TellingLemmas.{TellsOnceStarted-opened, TellsOnceStarted-then}
 use Rattle.hippo_history_top.proofs.OutcomeLemmas.{show_call, show_kept, show_steps, show_ends, stop_ends, stop_writes, stop_status, stop_call, stop_steps}
 use Rattle.hippo_history_top.proofs.top.show.Goals as goal
 
@@ -49,3 +50,11 @@ returns-in-Err-clause-writes g c = stop_writes c.args.store.now c.args.view.now 
 pub returns-in-Err-clause-steps : goal.returns-in-Err-clause-steps
 returns-in-Err-clause-steps g c = λ tells. stop_steps c.args.store.now c.args.view.now (g.P.Keeper.state c.args.keeper.now) (g.P.Keeper.state c.load.new.keeper) (g.K.Sink.written c.args.sink.now) (g.K.Sink.written c.stop.new.sink)
     (g.K.Sink.faults c.args.sink.now) (g.K.Sink.faults c.stop.new.sink) c.args.steps.now c.load.new.steps c.in-Err.fault c.in-Err.ensures.loads tells
+
+pub returns-in-Ok-clause-tells : goal.returns-in-Ok-clause-tells
+returns-in-Ok-clause-tells g c =
+    TellsOnceStarted-then c.args.store.now (g.P.Keeper.state c.args.keeper.now) (g.P.Keeper.state c.load.new.keeper) (g.P.Keeper.state c.show_view.new.keeper) (c.in-Ok.ensures.loads.started refl) c.in-Ok.ensures.loads.opened c.show_view.ensures.shows.call.telling
+
+pub returns-in-Err-clause-tells : goal.returns-in-Err-clause-tells
+returns-in-Err-clause-tells g c =
+    TellsOnceStarted-opened c.args.store.now (g.P.Keeper.state c.args.keeper.now) (g.P.Keeper.state c.load.new.keeper) c.in-Err.ensures.loads.opened c.in-Err.ensures.loads.call.telling.has_to

@@ -7,8 +7,9 @@ use Rattle.hippo_io.specs.Told.{Appends, AppendsFront}
 use Rattle.hippo_program_args.specs.Starting.{IsIdle}
 use Rattle.hippo_serve.specs.Asking.{store_of}
 use Rattle.hippo_serve_jobs.specs.Outside.{outside}
-use Rattle.hippo_serve.proofs.AskingLemmas.{status-6, run_as_asked, check_as_asked, idle_as_asked, summary_as_asked, said_whole, said_front}
+use Rattle.hippo_serve.proofs.AskingLemmas.{status-6, run_as_asked, check_as_asked, tells_as_asked, idle_as_asked, summary_as_asked, said_whole, said_front}
 use Rattle.hippo_serve_jobs.proofs.StatusLemmas.{status-listed, status-7}
+use Rattle.hippo_keeper.proofs.TellingLemmas.{TellsOnceStarted-same}
 use Rattle.hippo_serve.proofs.top.hippo_top.Goals as goal
 
 pub returns-in_default-asked-clause-status : goal.returns-in_default-asked-clause-status
@@ -89,3 +90,22 @@ returns-in-Run-clause-nothing g c = λ is.
     (c.run.ensures.ends tells exposed tt) in
     ends.6 is in
     (c.run.ensures.unread none, c.run.ensures.unwritten none, idle)
+
+pub returns-in-Run-clause-tells : goal.returns-in-Run-clause-tells
+returns-in-Run-clause-tells g c =
+    tells_as_asked c.args.words.now c.in-Some.call (sym c.in-Ok.ensures ∙ c.in-Some.is) c.as_str-store.result.now c.as_str-store.ensures
+    (g.P.Keeper.state c.args.keeper.now) (g.P.Keeper.state c.run.new.keeper) c.run.ensures.tells
+
+pub returns-in-Check-clause-tells : goal.returns-in-Check-clause-tells
+returns-in-Check-clause-tells g c =
+    tells_as_asked c.args.words.now c.in-Some.call (sym c.in-Ok.ensures ∙ c.in-Some.is) c.as_str-store.result.now c.as_str-store.ensures
+    (g.P.Keeper.state c.args.keeper.now) (g.P.Keeper.state c.check.new.keeper) c.check.ensures.tells
+
+pub returns-clause-tells : goal.returns-clause-tells
+returns-clause-tells g c = TellsOnceStarted-same (store_of c.args.words.now) (g.P.Keeper.state c.args.keeper.now) c.requires.ready
+
+pub returns-in_default-asked-clause-tells : goal.returns-in_default-asked-clause-tells
+returns-in_default-asked-clause-tells g c = TellsOnceStarted-same (store_of c.args.words.now) (g.P.Keeper.state c.args.keeper.now) c.requires.ready
+
+pub returns-in_default-clause-tells : goal.returns-in_default-clause-tells
+returns-in_default-clause-tells g c = TellsOnceStarted-same (store_of c.args.words.now) (g.P.Keeper.state c.args.keeper.now) c.requires.ready

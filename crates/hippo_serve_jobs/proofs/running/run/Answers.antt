@@ -4,6 +4,7 @@ use Rattle.hippo_values.specs.declared.moments.Moment.{Moment}
 use Rattle.hippo_engine_sessions.specs.Worlds.{opening}
 use Rattle.hippo_io.specs.Inputs.{exposed, left_in}
 use Rattle.hippo_engine.proofs.CarryingLemmas.{Holds-opening}
+use Rattle.hippo_keeper.proofs.TellingLemmas.{TellsOnceStarted-opened, TellsOnceStarted-then}
 use Rattle.hippo_program_args.specs.declared.endings.Ending.TheVariants.{NoMemory}
 use Rattle.hippo_program_args.specs.Endings.{status_of}
 use Rattle.hippo_serve_jobs.specs.Outside.{outside}
@@ -56,3 +57,15 @@ pub returns-in-Err-clause-read : goal.returns-in-Err-clause-read
 returns-in-Err-clause-read g c = λ view fits input is.
     let other = status-other c.stop.result c.stop.ensures.status.0 c.stop.ensures.status.3 in
     none_taken (status_of c.stop.result) input (left_in view (g.S.Source.left c.args.source.now) (g.S.Source.reads c.args.source.now)) is other.0 other.1
+
+pub returns-in-Ok-begin-clause-tells : goal.returns-in-Ok-begin-clause-tells
+returns-in-Ok-begin-clause-tells g c =
+    TellsOnceStarted-then c.args.store.now (g.P.Keeper.state c.args.keeper.now) (g.P.Keeper.state c.load.new.keeper) (g.P.Keeper.state c.serve_all-ending.new.keeper) (c.in-Ok.ensures.loads.started refl) c.in-Ok.ensures.loads.opened c.serve_all-ending.ensures.call.telling
+
+pub returns-in-Err-begin-clause-tells : goal.returns-in-Err-begin-clause-tells
+returns-in-Err-begin-clause-tells g c =
+    TellsOnceStarted-opened c.args.store.now (g.P.Keeper.state c.args.keeper.now) (g.P.Keeper.state c.load.new.keeper) c.in-Ok.ensures.loads.opened c.in-Ok.ensures.loads.call.telling.has_to
+
+pub returns-in-Err-clause-tells : goal.returns-in-Err-clause-tells
+returns-in-Err-clause-tells g c =
+    TellsOnceStarted-opened c.args.store.now (g.P.Keeper.state c.args.keeper.now) (g.P.Keeper.state c.load.new.keeper) c.in-Err.ensures.loads.opened c.in-Err.ensures.loads.call.telling.has_to
