@@ -3,6 +3,7 @@ use Rattle.std.specs.Prelude.{◌≡◌, ℕ, List, Option, Some, None}
 use Rattle.hippo_values.specs.Texts.{Txt}
 use Rattle.hippo_io.specs.Inputs.{ForEachInput}
 use Rattle.hippo_io.specs.Told.{Appends, AppendsFront}
+use Rattle.hippo_keeper.specs.Telling.{TellsOnceStarted}
 use Rattle.hippo_program_start.specs.Hosts.{HostState, IsUnread, IsSilent, IsUntouched}
 use Rattle.hippo_program_start.specs.Statuses.{AnswersAmong, ReportsFault}
 use Rattle.hippo_program_args.specs.Starting.{IsIdle, SaysDamaged}
@@ -67,6 +68,7 @@ pub record DrillsScript (size number status : ℕ) (before after : HostState) : 
 pub record CallEnds (words : List Txt) (status : ℕ) (before after : HostState) : Type 0 where
   pub fits : StatusFits words status before after
   pub refuses : RefusesWords words status before after
+  pub tells : TellsOnceStarted (store_of words) before.keeper after.keeper
   pub serves : ServesLines words status before after
   pub checks : job_of words ≡ Some Check → ChecksStore words status before after
   pub drills : (size number : ℕ) → job_of words ≡ Some (Drill size number)

@@ -25,6 +25,7 @@ returns g c =
         usage_said = top.usage;
         usage_cut = top.usage_cut;
       };
+      tells = top.tells;
       serves = record {
         served = λ job setting asks tells view fits. EndsAs-map _ _ (RunEnds-map _ _ _ _ unread silent setting job _ _ _) c.hippo_top.result (top.served job setting asks tells view fits);
         taken = top.taken;
