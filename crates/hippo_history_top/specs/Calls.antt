@@ -3,6 +3,7 @@ use Rattle.std.specs.Prelude.{◌≡◌, ◌⊎◌, ◌≤◌, ◌+◌, ◌*◌,
 use Rattle.hippo_values.specs.Texts.{Txt}
 use Rattle.hippo_io.specs.Told.{Appends, AppendsFront}
 use Rattle.hippo_keeper.specs.Selecting.{stored_versions}
+use Rattle.hippo_keeper.specs.Telling.{TellsOnceStarted}
 use Rattle.hippo_program_start.specs.Hosts.{HostState, IsUnread, IsSilent, IsSameKeeper}
 use Rattle.hippo_program_start.specs.Statuses.{AnswersAmong, ReportsFault}
 use Rattle.hippo_program_args.specs.Starting.{IsIdle, SaysDamaged, BeginsDamaged}
@@ -52,6 +53,8 @@ pub record HistoryCallEnds (words : List Txt) (status : ℕ) (before after : Hos
   pub usage_said : status ≡ 2 → Appends before.written after.written showing_usage
   pub usage_cut : asked_of words ≡ None → status ≡ 5
       → AppendsFront before.written after.written showing_usage
+  pub tells : (call : AskedCall) → asked_of words ≡ Some call
+      → TellsOnceStarted call.store before.keeper after.keeper
   pub shows : (call : AskedCall) → asked_of words ≡ Some call → after.keeper.tells
       → ShowsAsked call status before after
   pub steps_within : after.keeper.tells

@@ -16,6 +16,7 @@ returns g c =
       untouched = λ none. (IsSameKeeper-same state c.args.host.now.keeper c.history_top.new.keeper (top.refused none).1, (top.refused none).2);
       usage_said = top.usage;
       usage_cut = top.usage_cut;
+      tells = top.tells;
       shows = λ call asked tells. record {
         shown = λ is. top.shown call asked is tells;
         keeper_cut = λ is. elim (top.keeper_cut call asked is tells) [
