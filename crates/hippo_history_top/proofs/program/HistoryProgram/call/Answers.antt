@@ -1,35 +1,38 @@
 -- Each part of the host is one that the top function speaks of.
-use Rattle.std.proofs.Common.{◌⊎◌, inl, inr, rules, refl, sym, ap, ◌∙◌}
+use Rattle.std.proofs.Common.{◌≡◌, inl, inr, refl, ap}
 use Rattle.hippo_program_start.proofs.HostLemmas.{IsSameKeeper-same}
 use Rattle.hippo_history_top.proofs.program.HistoryProgram.call.Goals as goal
 
 pub returns : goal.returns
 returns g c =
-    let state = g.P.Keeper.state in
+    let old = c.args.host.now in
+    let new = c.history_top.new in
     let top = c.history_top.ensures in
-    record {
+    let state = g.P.Keeper.state in
+    let silent : new.sink ≡ old.sink → g.K.Sink.written new.sink ≡ g.K.Sink.written old.sink = λ same. ap g.K.Sink.written same in
+    record { answers = record {
       listed = ((λ none. (top.refused none).0, top.accepted), top.status);
       unread = refl;
       reads = refl;
       writes = (top.write_fault, top.unfailed_write);
       keeper = (λ is. (top.keeper_fault is).0, λ not. (top.unfailed_keeper not).0);
-      untouched = λ none. (IsSameKeeper-same state c.args.host.now.keeper c.history_top.new.keeper (top.refused none).1, (top.refused none).2);
+      untouched = λ none. (IsSameKeeper-same state old.keeper new.keeper (top.refused none).1, (top.refused none).2);
       usage_said = top.usage;
       usage_cut = top.usage_cut;
       tells = top.tells;
       shows = λ call asked tells. record {
         shown = λ is. top.shown call asked is tells;
         keeper_cut = λ is. elim (top.keeper_cut call asked is tells) [
-          | inl idle ↦ inl (ap g.K.Sink.written idle.0, idle.1)
+          | inl idle ↦ inl (silent idle.0, idle.1)
           | inr front ↦ inr front
         ];
         write_cut = λ is. top.write_cut call asked is tells;
         damaged = λ is. top.damaged call asked is tells;
         memory_cut = λ is. elim (top.memory_cut call asked is tells) [
-          | inl idle ↦ inl (ap g.K.Sink.written idle.0, idle.1)
+          | inl idle ↦ inl (silent idle.0, idle.1)
           | inr front ↦ inr front
         ];
         same = top.same call asked tells;
       };
       steps_within = top.steps;
-    }
+    } }
