@@ -14,8 +14,8 @@ use Rattle.hippo_history_top.specs.Outcomes.{ShowsView, BeginsView}
 use Rattle.hippo_history_top.specs.Saying.{showing_usage}
 
 -- what is asked for is shown
-abbrev pub ShowsAll : AskedCall → HostState → HostState → Type 0
-ShowsAll call before after =
+abbrev pub ShowsWhole : AskedCall → HostState → HostState → Type 0
+ShowsWhole call before after =
     ShowsView call.view call.store before.keeper after.keeper before.written after.written
 
 -- a prefix of what is asked for is shown
@@ -30,7 +30,7 @@ StaysIdle call before after =
 
 -- what each status means for what is asked for, if the store's contents are known
 pub record ShowsAsked (call : AskedCall) (status : ℕ) (before after : HostState) : Type 0 where
-  pub shown : status ≡ 0 → ShowsAll call before after
+  pub shown : status ≡ 0 → ShowsWhole call before after
   pub keeper_cut : status ≡ 3 → StaysIdle call before after ⊎ ShowsFront call before after
   pub write_cut : status ≡ 5
       → BeginsDamaged call.store before.keeper after.keeper before.written after.written
