@@ -14,5 +14,5 @@ use std::sync::ledger::Blank;
 // Most commits therefore sync once.
 fn main(rt: HostRuntime) -> Ended<FileKeeper<Unknown>> {
     let keeper = FileKeeper::new(rt, Unknown);
-    start::<Hippo, FileKeeper<Unknown>, Brand>(rt, keeper, Blank::new(1))
+    start::<Hippo, FileKeeper<Unknown>, Brand>(rt, &Hippo, keeper, Blank::new(1))
 }

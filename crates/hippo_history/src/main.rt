@@ -14,5 +14,5 @@ use std::sync::ledger::Blank;
 // Most commits therefore sync once.
 fn main(rt: HostRuntime) -> Ended<FileKeeper<Unknown>> {
     let keeper = FileKeeper::new(rt, Unknown);
-    start::<History, FileKeeper<Unknown>, Brand>(rt, keeper, Blank::new(1))
+    start::<History, FileKeeper<Unknown>, Brand>(rt, &History, keeper, Blank::new(1))
 }

@@ -12,9 +12,10 @@ use std::sync::ledger::Ledger;
 pub struct History;
 
 impl Program for History {
-    ghost Answers = { HistoryCallEnds };
+    ghost Answers = { λ program. HistoryCallEnds };
 
     fn call<S: Source, K: Sink, P: CountedKeeper<L>, L: Ledger>(
+        &self,
         words: &[Txt],
         host: &mut Host<S, K, P, L>,
     ) -> u8 {

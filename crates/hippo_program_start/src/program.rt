@@ -13,16 +13,17 @@ use std::sync::ledger::Ledger;
 /// A program: what it does with its words on its host.
 pub trait Program {
     // Whether the program may return this status with these words, given its host before and after.
-    ghost Answers: { List Txt → ℕ → HostState → HostState → Type 0 };
+    ghost Answers: { Self → List Txt → ℕ → HostState → HostState → Type 0 };
 
     /// Does what the words ask for, and returns the exit status. The keeper must be neither started
     /// nor spent nor closed.
     fn call<S: Source, K: Sink, P: CountedKeeper<L>, L: Ledger>(
+        &self,
         words: &[Txt],
         host: &mut Host<S, K, P, L>,
     ) -> u8
         requires ready { IsReady false (P.state host.old.keeper) }
-        ensures answers { Answers words.now result
+        ensures answers { Answers self.now words.now result
             (host_state (input_state (S.left host.old.source) (S.reads host.old.source))
             (K.written host.old.sink)
             (fault_counts (S.faults host.old.source) (K.faults host.old.sink))

@@ -45,6 +45,7 @@ fn words(rt: &HostRuntime) -> Result<Words, Memory> {
 /// the keeper in the result what the program's contract says of its host.
 pub fn start<P: Program, Q: CountedKeeper<L>, L: Ledger>(
     rt: HostRuntime,
+    program: &P,
     keeper: Q,
     blank: Blank,
 ) -> Ended<Q>
@@ -55,7 +56,7 @@ pub fn start<P: Program, Q: CountedKeeper<L>, L: Ledger>(
     ensures ends { ((ended_status result ≡ 7) × (ended_reads result ≡ unread)
         × (ended_written result ≡ []) × (ended_keeper result ≡ keeper))
         ⊎ ((words : List Txt) × (left : Option Txt) × (left' : Option Txt) × (steps : ℕ)
-        × P.Answers words (ended_status result)
+        × P.Answers program.now words (ended_status result)
         (host_state (input_state left unread) (Some []) (fault_counts 0 0) (Q.state keeper) 0)
         (host_state (input_state left' (ended_reads result)) (Some (ended_written result))
         (ended_faults result) (Q.state (ended_keeper result)) steps)) }
@@ -70,6 +71,6 @@ pub fn start<P: Program, Q: CountedKeeper<L>, L: Ledger>(
     let Ok(words) = words(&rt) else {
         return Ended::of(NO_MEMORY, host);
     };
-    let status = P::call(words.as_slice(), &mut host);
+    let status = program.call(words.as_slice(), &mut host);
     Ended::of(status, host)
 }

@@ -12,9 +12,10 @@ use std::sync::ledger::Ledger;
 pub struct Hippo;
 
 impl Program for Hippo {
-    ghost Answers = { CallEnds };
+    ghost Answers = { λ program. CallEnds };
 
     fn call<S: Source, K: Sink, P: CountedKeeper<L>, L: Ledger>(
+        &self,
         words: &[Txt],
         host: &mut Host<S, K, P, L>,
     ) -> u8 {

@@ -27,10 +27,11 @@ fn say_words<K: Sink>(words: &[Txt], sink: &mut K) -> Result<u8, Failed>
 struct Echo;
 
 impl Program for Echo {
-    ghost Answers = { λ words status before after.
+    ghost Answers = { λ echo words status before after.
         (status ≡ min 255 (length words)) ⊎ (status ≡ 255) };
 
     fn call<S: Source, K: Sink, P: CountedKeeper<L>, L: Ledger>(
+        &self,
         words: &[Txt],
         host: &mut Host<S, K, P, L>,
     ) -> u8 {
@@ -40,5 +41,5 @@ impl Program for Echo {
 
 fn main(rt: HostRuntime) -> Ended<MemoryKeeper> {
     let keeper = MemoryKeeper::new(rt.alloc(), KeeperFails::new(rt.alloc()));
-    start::<Echo, MemoryKeeper, Brand>(rt, keeper, Blank::new(1))
+    start::<Echo, MemoryKeeper, Brand>(rt, &Echo, keeper, Blank::new(1))
 }

@@ -10,29 +10,31 @@ returns g c =
     let top = c.history_top.ensures in
     let state = g.P.Keeper.state in
     let silent : new.sink ≡ old.sink → g.K.Sink.written new.sink ≡ g.K.Sink.written old.sink = λ same. ap g.K.Sink.written same in
-    record { answers = record {
-      listed = ((λ none. (top.refused none).0, top.accepted), top.status);
-      unread = refl;
-      reads = refl;
-      writes = (top.write_fault, top.unfailed_write);
-      keeper = (λ is. (top.keeper_fault is).0, λ not. (top.unfailed_keeper not).0);
-      untouched = λ none. (IsSameKeeper-same state old.keeper new.keeper (top.refused none).1, (top.refused none).2);
-      usage_said = top.usage;
-      usage_cut = top.usage_cut;
-      tells = top.tells;
-      shows = λ call asked tells. record {
-        shown = λ is. top.shown call asked is tells;
-        keeper_cut = λ is. elim (top.keeper_cut call asked is tells) [
-          | inl idle ↦ inl (silent idle.0, idle.1)
-          | inr front ↦ inr front
-        ];
-        write_cut = λ is. top.write_cut call asked is tells;
-        damaged = λ is. top.damaged call asked is tells;
-        memory_cut = λ is. elim (top.memory_cut call asked is tells) [
-          | inl idle ↦ inl (silent idle.0, idle.1)
-          | inr front ↦ inr front
-        ];
-        same = top.same call asked tells;
+    record {
+      answers = record {
+        listed = ((λ none. (top.refused none).0, top.accepted), top.status);
+        unread = refl;
+        reads = refl;
+        writes = (top.write_fault, top.unfailed_write);
+        keeper = (λ is. (top.keeper_fault is).0, λ not. (top.unfailed_keeper not).0);
+        untouched = λ none. (IsSameKeeper-same state old.keeper new.keeper (top.refused none).1, (top.refused none).2);
+        usage_said = top.usage;
+        usage_cut = top.usage_cut;
+        tells = top.tells;
+        shows = λ call asked tells. record {
+          shown = λ is. top.shown call asked is tells;
+          keeper_cut = λ is. elim (top.keeper_cut call asked is tells) [
+            | inl idle ↦ inl (silent idle.0, idle.1)
+            | inr front ↦ inr front
+          ];
+          write_cut = λ is. top.write_cut call asked is tells;
+          damaged = λ is. top.damaged call asked is tells;
+          memory_cut = λ is. elim (top.memory_cut call asked is tells) [
+            | inl idle ↦ inl (silent idle.0, idle.1)
+            | inr front ↦ inr front
+          ];
+          same = top.same call asked tells;
+        };
+        steps_within = top.steps;
       };
-      steps_within = top.steps;
-    } }
+    }
