@@ -12,6 +12,10 @@ showing_usage =
     codes "usage: hippo_history --store NAME [--entry N | [--from N] [--to N]] [--table NAME] [--rules | --digest | [--tables] [--script]]"
     ++ codes " [--format text|json|csv]\n"
 
+-- there is no store with the name in the words
+unfoldable pub missing_line : Txt
+missing_line = codes "there is no store with this name\n"
+
 -- a text is written; or the sink failed, and a prefix of it is written; or memory ran out, and
 -- nothing is written
 abbrev pub Writes : Txt → Option Ending → Option Txt → Option Txt → ℕ → ℕ → Type 0

@@ -12,8 +12,10 @@ mod reading;
 mod rules;
 mod scope;
 mod showing;
+mod stores;
 mod top;
 
 pub use asking::{Acts, Call, Excerpt, Form, Page, Scope, View};
 pub use reading::asked_of;
+pub use stores::Stores;
 pub use top::history_top;

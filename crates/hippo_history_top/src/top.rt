@@ -14,15 +14,16 @@ ghost use Rattle.hippo_history_top.specs.CommandLine.{asked_of};
 ghost use Rattle.hippo_program_args.specs.Endings.{ending_as_call};
 ghost use Rattle.hippo_history_top.specs.Endings.{showing_statuses, ends_showing};
 ghost use Rattle.hippo_history_top.specs.Outcomes.{ShowsView, BeginsView, Ends};
-ghost use Rattle.hippo_history_top.specs.Saying.{showing_usage, CountsWrites};
+ghost use Rattle.hippo_history_top.specs.Saying.{showing_usage, missing_line, CountsWrites};
 
 use crate::asking::{Page, View};
 use crate::digest::show_digest;
 use crate::endings::served_or;
-use crate::printing::{refuse, write_lines};
+use crate::printing::{miss, refuse, write_lines};
 use crate::reading::asked_of;
 use crate::rules::append_rules;
 use crate::showing::{Guide, show_all};
+use crate::stores::Stores;
 use hippo_io::Sink;
 use hippo_keeper::{Keeper, Steps};
 use hippo_program_args::{Ending, stop};
@@ -112,13 +113,15 @@ fn show<K: Sink, P: Keeper, L: Ledger>(
 }
 
 /// Runs the program and returns its exit status. `words` are the words after the program's name,
-/// and `sink` is its output. `keeper` stores a history, in the store that the words name; it must
-/// be neither started nor spent nor closed.
+/// `stores` tells whether there is a store with a name, and `sink` is the program's output.
+/// `keeper` stores a history, in the store that the words name; it must be neither started nor
+/// spent nor closed.
 ///
 /// - 0: exactly what is asked for of the stored history is written (`shown`).
 /// - 2: the words ask for nothing (see [`asked_of`]). The usage line is written. If it cannot be
 ///   written, the status is 5 or 7 instead.
-/// - 3: the keeper failed. What is written is a prefix of what is asked for.
+/// - 3: the keeper failed, and what is written is a prefix of what is asked for. Or there is no
+///   store with this name: a line says so, and the keeper is not started.
 /// - 5: the sink failed. What was written is a prefix of what was to be written.
 /// - 6: the stored entries are those of no valid history. The line `damaged PLACE` is written.
 ///   PLACE, counted from 1, is that of the first entry for which the entries up to and including it
@@ -129,9 +132,10 @@ fn show<K: Sink, P: Keeper, L: Ledger>(
 /// pieces. The first read loads the history, so that damage is reported before anything else is
 /// written. If entries or their digest are asked for, a second read shows them. The rules in force
 /// are computed in memory from what was loaded, and then written.
-pub fn history_top<K: Sink, P: Keeper, L: Ledger>(
+pub fn history_top<D: Stores, K: Sink, P: Keeper, L: Ledger>(
     alloc: Global,
     words: &[Txt],
+    stores: &D,
     sink: &mut K,
     keeper: &mut P,
     steps: &mut Steps<L>,
@@ -147,22 +151,32 @@ pub fn history_top<K: Sink, P: Keeper, L: Ledger>(
     ensures usage_cut { asked_of words.now ≡ None → result ≡ 5 →
         AppendsFront (K.written sink.old) (K.written sink.new) showing_usage }
 
+    // If there is no store with this name, a line says so, and no store is made.
+    ensures looked { (call : AskedCall) → asked_of words.now ≡ Some call → result ≢ 7
+        → D.Answers stores.now call.store true
+        ⊎ (D.Answers stores.now call.store false × ((result ≡ 3) ⊎ (result ≡ 5))
+        × (keeper.new ≡ keeper.old) × (steps.new ≡ steps.old)) }
+
     // What is shown, if the store's contents are known, of a history that a start may find.
     ensures shown { (call : AskedCall) → asked_of words.now ≡ Some call → result ≡ 0
         → (P.state keeper.new).tells →
         ShowsView call.view call.store
         (P.state keeper.old) (P.state keeper.new) (K.written sink.old) (K.written sink.new) }
     ensures keeper_cut { (call : AskedCall) → asked_of words.now ≡ Some call → result ≡ 3
-        → (P.state keeper.new).tells →
+        → (D.Answers stores.now call.store false × (keeper.new ≡ keeper.old)
+        × Appends (K.written sink.old) (K.written sink.new) missing_line)
+        ⊎ ((P.state keeper.new).tells →
         ((sink.new ≡ sink.old) × IsIdle call.store (P.state keeper.old) (P.state keeper.new))
         ⊎ BeginsView call.view call.store
-        (P.state keeper.old) (P.state keeper.new) (K.written sink.old) (K.written sink.new) }
+        (P.state keeper.old) (P.state keeper.new) (K.written sink.old) (K.written sink.new)) }
     ensures write_cut { (call : AskedCall) → asked_of words.now ≡ Some call → result ≡ 5
-        → (P.state keeper.new).tells →
+        → (D.Answers stores.now call.store false × (keeper.new ≡ keeper.old)
+        × AppendsFront (K.written sink.old) (K.written sink.new) missing_line)
+        ⊎ ((P.state keeper.new).tells →
         BeginsDamaged call.store (P.state keeper.old) (P.state keeper.new) (K.written sink.old)
         (K.written sink.new)
         ⊎ BeginsView call.view call.store
-        (P.state keeper.old) (P.state keeper.new) (K.written sink.old) (K.written sink.new) }
+        (P.state keeper.old) (P.state keeper.new) (K.written sink.old) (K.written sink.new)) }
     ensures damaged { (call : AskedCall) → asked_of words.now ≡ Some call → result ≡ 6
         → (P.state keeper.new).tells →
         SaysDamaged call.store (P.state keeper.old) (P.state keeper.new) (K.written sink.old)
@@ -181,9 +195,10 @@ pub fn history_top<K: Sink, P: Keeper, L: Ledger>(
         steps.new ≤ steps.old + 2 * stored_versions (P.state keeper.new).kept }
 
     // A status for a fault is returned only when the count of the object that failed rose.
-    ensures keeper_fault { result ≡ 3 → HasRisen (P.state keeper.old).faults
-        (P.state keeper.new).faults
-        × ((P.state keeper.new).spent ≡ true) }
+    ensures keeper_fault { result ≡ 3 → ((call : AskedCall) → asked_of words.now ≡ Some call
+        → D.Answers stores.now call.store false)
+        ⊎ (HasRisen (P.state keeper.old).faults (P.state keeper.new).faults
+        × ((P.state keeper.new).spent ≡ true)) }
     ensures write_fault { result ≡ 5 → HasRisen (K.faults sink.old) (K.faults sink.new) }
     ensures unfailed_keeper { result ≢ 3
         → ((P.state keeper.new).faults ≡ (P.state keeper.old).faults)
@@ -197,5 +212,8 @@ pub fn history_top<K: Sink, P: Keeper, L: Ledger>(
         return refuse(sink).status();
     };
     let store = call.store.as_str();
+    if !stores.has(store) {
+        return miss(sink).status();
+    }
     show(alloc, store, &call.view, sink, keeper, steps).status()
 }
