@@ -1,5 +1,5 @@
 -- What is shown of a history: the entries that are asked for, each with the statement that made it.
-use Rattle.std.specs.Prelude.{Bool, true, false, ◌&&◌, [], ◌∷◌, ◌++◌, take, nat_le, Option, Some, None, if◌then◌else◌, codes, bytes_eq}
+use Rattle.std.specs.Prelude.{Bool, true, false, ◌&&◌, [], ◌∷◌, ◌++◌, take, nat_le, int_le, Option, Some, None, if◌then◌else◌, codes, bytes_eq}
 use Rattle.std.specs.List.{list_any}
 use Rattle.std.specs.Option.{option_map_or}
 use Rattle.std.specs.Ordering.{int_eq}
@@ -19,6 +19,8 @@ use Rattle.hippo_history_statements.specs.Telling.{act_statement, schema_before}
 use Rattle.hippo_model.specs.Validity.{creates_table}
 use Rattle.hippo_history_top.specs.declared.asking.Acts.{Acts}
 use Rattle.hippo_history_top.specs.declared.asking.Acts.TheVariants.{All, Tables}
+use Rattle.hippo_history_top.specs.declared.asking.Bound.{Bound}
+use Rattle.hippo_history_top.specs.declared.asking.Bound.TheVariants.{Number, At}
 use Rattle.hippo_history_top.specs.declared.asking.Excerpt.{Excerpt}
 use Rattle.hippo_history_top.specs.declared.asking.Form.{Form}
 use Rattle.hippo_history_top.specs.declared.asking.Form.TheVariants.{Listing, Script}
@@ -55,10 +57,19 @@ abbrev pub is_of : Acts → Act → Bool
 is_of All act = true
 is_of Tables act = creates_table act
 
+-- whether an entry is at a bound or after it, and whether it is at a bound or before it
+abbrev pub is_from : Bound → Entry → Bool
+is_from (Number number) entry = nat_le number entry.seq
+is_from (At moment) entry = int_le moment entry.moment
+
+abbrev pub is_to : Bound → Entry → Bool
+is_to (Number number) entry = nat_le entry.seq number
+is_to (At moment) entry = int_le entry.moment moment
+
 -- whether an entry is asked for
 abbrev pub is_in_excerpt : KnownNames → Excerpt → Entry → Bool
 is_in_excerpt known excerpt entry =
-    nat_le excerpt.first entry.seq && nat_le entry.seq excerpt.last && is_of excerpt.acts entry.act
+    is_from excerpt.first entry && is_to excerpt.last entry && is_of excerpt.acts entry.act
     && is_in_scope known excerpt.scope entry.act
 
 -- a line of the console, and then the lines of a session that asks one question

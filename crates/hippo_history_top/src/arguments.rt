@@ -10,8 +10,8 @@ use hippo_program_args::{Argument, text_of};
 pub(crate) const ARGUMENTS: [Argument<'static>; 10] = [
     Argument::Needed("store"),
     Argument::Entry("entry"),
-    Argument::Entry("from"),
-    Argument::Entry("to"),
+    Argument::Text("from"),
+    Argument::Text("to"),
     Argument::Text("table"),
     Argument::Flag("tables"),
     Argument::Flag("script"),

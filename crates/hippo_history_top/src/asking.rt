@@ -1,6 +1,6 @@
 //! What a call of the program asks for.
 use hippo_report::Format;
-use hippo_values::{Name, Txt};
+use hippo_values::{Moment, Name, Txt};
 
 /// How entries are shown.
 #[derive(Clone, Copy, PartialEq, Eq)]
@@ -27,12 +27,21 @@ pub enum Acts {
     Tables,
 }
 
+/// One end of a stretch of entries.
+#[derive(Clone, Copy)]
+pub enum Bound {
+    /// The entry with this number.
+    Number(u64),
+    /// The entries at this moment.
+    At(Moment),
+}
+
 /// Some entries of a history, and how they are shown.
 #[derive(Drop)]
 pub struct Excerpt {
-    /// The number of the first entry; `last` is the number of the last.
-    pub first: u64,
-    pub last: u64,
+    /// Where the stretch of entries begins; `last` is where it ends. Both ends belong to it.
+    pub first: Bound,
+    pub last: Bound,
     pub acts: Acts,
     pub scope: Scope,
     pub form: Form,

@@ -4,6 +4,7 @@
 
 mod arguments;
 mod asking;
+mod bounds;
 mod digest;
 mod endings;
 mod lines;
@@ -15,7 +16,7 @@ mod showing;
 mod stores;
 mod top;
 
-pub use asking::{Acts, Call, Excerpt, Form, Page, Scope, View};
+pub use asking::{Acts, Bound, Call, Excerpt, Form, Page, Scope, View};
 pub use reading::asked_of;
 pub use stores::Stores;
 pub use top::history_top;
