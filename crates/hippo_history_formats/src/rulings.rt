@@ -5,7 +5,7 @@ ghost use Rattle.hippo_history_statements.specs.Telling.{name_at};
 ghost use Rattle.hippo_history_formats.specs.Formats.{rule_number, ruling_word, rule_item, rule_days, opt_word};
 
 use hippo_model::{RuleAt, Schema};
-use hippo_values::Name;
+use hippo_values::{Moment, Name};
 
 /// The rule of a table's column for a purpose and a recipient.
 #[derive(Clone, Copy)]
@@ -15,6 +15,8 @@ pub struct ColumnRule<'a> {
     pub schema: &'a Schema,
     pub place: usize,
     pub ruling: RuleAt<'a>,
+    /// The moment of the rule's entry, if there is a rule.
+    pub moment: Option<Moment>,
 }
 
 /// The column's name.

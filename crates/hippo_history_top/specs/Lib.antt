@@ -7,4 +7,5 @@ pub mod Showing
 pub mod ByNames
 pub mod Progress
 pub mod Digesting
+pub mod Gathering
 pub mod Outcomes

@@ -7,6 +7,7 @@ mod asking;
 mod bounds;
 mod digest;
 mod endings;
+mod gathering;
 mod lines;
 mod printing;
 mod reading;
