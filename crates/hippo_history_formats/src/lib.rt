@@ -14,5 +14,5 @@ mod told;
 pub use grants::{Grant, append_grant};
 pub use questions::{Question, question_of};
 pub use ruled::append_rule_line;
-pub use rulings::ColumnRule;
+pub use rulings::{ColumnRule, ruling_number};
 pub use told::{append_entry, append_moment};

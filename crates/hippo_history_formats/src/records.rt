@@ -9,7 +9,7 @@ ghost use Rattle.hippo_history_formats.specs.Shown.{told_fields, shown_fields, c
 
 use crate::grants::Grant;
 use crate::questions::Question;
-use crate::rulings::{ColumnRule, column_name, days_of, item_of, number_of, opt_of, ruling_word};
+use crate::rulings::{ColumnRule, column_name, days_of, item_of, opt_of, ruling_number, ruling_word};
 use crate::told::{Shown, Told};
 use csv::{Error, StringRecord, WriterBuilder};
 use hippo_model::RuleAt;
@@ -137,7 +137,7 @@ fn push_ruling(
         ++ (decimal (rule_number (ruling_of ruling.now)) ∷ unwrap_or (option_copied moment.entry) []
         ∷ ruling_word (ruling_of ruling.now) ∷ [])) }
 {
-    fields.push_field(Buffer::new().format(number_of(ruling)))?;
+    fields.push_field(Buffer::new().format(ruling_number(ruling)))?;
     fields.push_field(text_field(moment))?;
     fields.push_field(ruling_word(ruling))
 }

@@ -29,7 +29,8 @@ pub(crate) fn column_name<'a>(rule: &ColumnRule<'a>) -> &'a str
     }
 }
 
-pub(crate) fn number_of(ruling: &RuleAt<'_>) -> u64
+/// The number of a rule's entry, or 0 if there is no rule.
+pub fn ruling_number(ruling: &RuleAt<'_>) -> u64
     ensures { result ≡ rule_number (ruling_of ruling.now) }
 {
     match *ruling {

@@ -1,5 +1,5 @@
 -- Gathering from the stored entries, one piece after another.
-use Rattle.std.proofs.Common.{◌≡◌, ◌∙◌, ◌↔◌, ℕ, ◌+◌, ◌^◌, ◌<◌, ◌≤◌, Bool, true, false, not, [], ◌∷◌, ◌++◌, length, take, drop, get_or, Result, Ok, Err, OnOk, IsTrue, refl, sym, ap, subst, append_assoc, arith}
+use Rattle.std.proofs.Common.{◌≡◌, ◌∙◌, ◌↔◌, ℕ, ◌+◌, ◌^◌, ◌<◌, ◌≤◌, Bool, true, false, not, [], ◌∷◌, ◌++◌, length, take, drop, get_or, Option, Some, None, Result, Ok, Err, OnOk, IsTrue, refl, sym, ap, subst, append_assoc, arith}
 use Rattle.std.proofs.lemmas.List.{append-nil, take-append-drop}
 use Rattle.hippo_model.specs.declared.entry.Entry.{Entry}
 use Rattle.hippo_model.specs.declared.stored.StoredEntry.{StoredEntry}
@@ -19,6 +19,11 @@ use Rattle.hippo_history_top.specs.Gathering.{Gathers, GathersNext, IsGathering,
 use Rattle.hippo_history_top.specs.Progress.{HasForms, IsReadUpTo}
 use Rattle.hippo_history_top.proofs.EntryLemmas.{one_entry, no_entry}
 use Rattle.hippo_history_top.proofs.KeptLemmas.{split, no_entries, last-both, last_above}
+
+-- what follows on success
+pub ok_so : {T E A B : Type 0} (result : Result T E) → (A → B) → OnOk result A → OnOk result B
+ok_so (Ok value) so holds = so holds
+ok_so (Err fault) so holds = tt
 
 -- nothing is covered besides
 pub Gathers-none : (covers : History → Type 0) → Gathers covers covers []

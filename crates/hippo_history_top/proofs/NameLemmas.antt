@@ -34,8 +34,9 @@ use Rattle.hippo_history_top.specs.declared.asking.Form.TheVariants.{Listing, Sc
 use Rattle.hippo_history_top.specs.declared.asking.Scope.{Scope}
 use Rattle.hippo_history_top.specs.declared.asking.Scope.TheVariants.{Whole, Table}
 use Rattle.hippo_history_formats.specs.Formats.{entry_by}
+use Rattle.hippo_history_top.specs.Dating.{is_from, is_to}
 use Rattle.hippo_history_top.specs.ByNames.{schema_named, shown_as, entry_shown, clock_after, entries_shown}
-use Rattle.hippo_history_top.specs.Showing.{is_from, is_to, is_in_scope, is_of, is_in_excerpt, act_lines, clock_line, told_as, is_told, entry_where, clock_where, entries_told}
+use Rattle.hippo_history_top.specs.Showing.{is_in_scope, is_of, is_in_excerpt, act_lines, clock_line, told_as, is_told, entry_where, clock_where, entries_told}
 
 found_there : {A : Type 0} (test : A → Bool) (found : Option A) → option_map_or test found false ≡ true → ((x : A) × (found ≡ Some x))
 found_there test None passes = absurd (false≢true passes)

@@ -22,15 +22,15 @@ use Rattle.hippo_history_top.specs.declared.asking.Form.TheVariants.{Listing, Sc
 use Rattle.hippo_history_top.specs.declared.asking.Scope.{Scope}
 use Rattle.hippo_history_top.specs.declared.asking.Scope.TheVariants.{Whole, Table}
 use Rattle.hippo_history_top.specs.declared.asking.View.{View}
-use Rattle.hippo_history_top.specs.declared.asking.View.TheVariants.{Entries, Rules, Digest}
+use Rattle.hippo_history_top.specs.declared.asking.View.TheVariants.{Entries, Rules, Users, Digest}
 
 -- the command, as clap is given it
 abbrev pub showing_command_line : App
 showing_command_line = command_with (codes "hippo_history")
     (needed_option (codes "store") ∷ entry_option (codes "entry") ∷ text_option (codes "from")
-    ∷ text_option (codes "to") ∷ text_option (codes "table") ∷ flag (codes "tables")
-    ∷ flag (codes "script")
-    ∷ flag (codes "rules") ∷ flag (codes "digest") ∷ text_option (codes "format") ∷ [])
+    ∷ text_option (codes "to") ∷ text_option (codes "at") ∷ text_option (codes "table")
+    ∷ flag (codes "tables") ∷ flag (codes "script") ∷ flag (codes "rules")
+    ∷ flag (codes "users") ∷ flag (codes "digest") ∷ text_option (codes "format") ∷ [])
 
 -- whether a flag, a name without a value, is given
 abbrev pub is_on : Txt → List Row → Bool
@@ -56,6 +56,10 @@ first_in rows = option_map_or bound_of (bound_word (codes "from") rows) (Some (N
 abbrev pub last_in : List Row → Option Bound
 last_in rows = option_map_or bound_of (bound_word (codes "to") rows) (Some (Number 4000000))
 
+-- one entry, or one bound, after which rules or authorizations are in force
+abbrev pub page_end : List Row → Option Bound
+page_end rows = option_map_or bound_of (bound_word (codes "at") rows) (Some (Number 4000000))
+
 -- one entry cannot be combined with an end of a range
 abbrev pub has_end : List Row → Bool
 has_end rows = is_some (first_of (codes "from") rows) || is_some (first_of (codes "to") rows)
@@ -63,13 +67,28 @@ has_end rows = is_some (first_of (codes "from") rows) || is_some (first_of (code
 abbrev pub entry_fits : List Row → Bool
 entry_fits rows = not (is_some (first_of (codes "entry") rows) && has_end rows)
 
--- the rules are those after one entry, or after all; they cannot be combined with an end of a
--- range, nor with a form of entries
+-- rules and authorizations are those after one entry, up to one bound, or after all; they cannot be
+-- combined with an end of a range, nor with a form of entries
 abbrev pub has_form : List Row → Bool
 has_form rows = is_on (codes "tables") rows || is_on (codes "script") rows
 
-abbrev pub rules_fit : List Row → Bool
-rules_fit rows = not (is_on (codes "rules") rows && (has_end rows || has_form rows))
+abbrev pub is_page : List Row → Bool
+is_page rows = is_on (codes "rules") rows || is_on (codes "users") rows
+
+abbrev pub page_fits : List Row → Bool
+page_fits rows = not (is_page rows && (has_end rows || has_form rows))
+
+-- authorizations are of no table, and are not shown with the rules
+abbrev pub users_fit : List Row → Bool
+users_fit rows =
+    not (is_on (codes "users") rows
+    && (is_on (codes "rules") rows || is_some (first_of (codes "table") rows)))
+
+-- a bound for rules or authorizations takes the place of an entry
+abbrev pub bound_fits : List Row → Bool
+bound_fits rows =
+    not (is_some (first_of (codes "at") rows)
+    && (not (is_page rows) || is_some (first_of (codes "entry") rows)))
 
 -- the digest is that of the entries up to one, or of all; it cannot be combined with anything else
 abbrev pub has_selection : List Row → Bool
@@ -80,10 +99,11 @@ has_selection rows =
 abbrev pub digest_fits : List Row → Bool
 digest_fits rows =
     not (is_on (codes "digest") rows
-    && (has_selection rows || has_form rows || is_on (codes "rules") rows))
+    && (has_selection rows || has_form rows || is_page rows))
 
 abbrev pub options_fit : List Row → Bool
-options_fit rows = entry_fits rows && rules_fit rows && digest_fits rows
+options_fit rows =
+    entry_fits rows && page_fits rows && users_fit rows && bound_fits rows && digest_fits rows
 
 -- the table whose entries or rules are shown; `None` if the word is not a name
 abbrev pub scope_of : Option Txt → Option Scope
@@ -121,8 +141,11 @@ entries_in rows format scope =
     (λ first. option_map (λ last. Entries (excerpt_in rows format scope first last)) (last_in rows))
     (first_in rows)
 
-abbrev pub page_to : Format → Scope → ℕ → View
+abbrev pub page_to : Format → Scope → Bound → View
 page_to format scope last = Rules (record { last = last; scope = scope; format = format })
+
+abbrev pub roster_to : Format → Bound → View
+roster_to format last = Users (record { last = last; format = format })
 
 -- the number that an option gives, or the highest one
 abbrev pub number_in : Txt → List Row → Option ℕ
@@ -130,8 +153,8 @@ number_in name rows = option_map_or entry_number (first_of name rows) (Some 4000
 
 abbrev pub view_in : List Row → Format → Scope → Option View
 view_in rows format scope =
-    if is_on (codes "rules") rows
-    then option_map (page_to format scope) (number_in (codes "entry") rows)
+    if is_on (codes "rules") rows then option_map (page_to format scope) (page_end rows)
+    else if is_on (codes "users") rows then option_map (roster_to format) (page_end rows)
     else if is_on (codes "digest") rows then option_map Digest (number_in (codes "to") rows)
     else entries_in rows format scope
 

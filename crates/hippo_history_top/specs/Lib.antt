@@ -2,6 +2,8 @@ pub mod CommandLine
 pub mod Endings
 pub mod Saying
 pub mod Ruling
+pub mod Dating
+pub mod Granting
 pub mod Digests
 pub mod Showing
 pub mod ByNames

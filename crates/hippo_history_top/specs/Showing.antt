@@ -1,5 +1,5 @@
 -- What is shown of a history: the entries that are asked for, each with the statement that made it.
-use Rattle.std.specs.Prelude.{Bool, true, false, ◌&&◌, [], ◌∷◌, ◌++◌, take, nat_le, int_le, Option, Some, None, if◌then◌else◌, codes, bytes_eq}
+use Rattle.std.specs.Prelude.{Bool, true, false, ◌&&◌, [], ◌∷◌, ◌++◌, take, Option, Some, None, if◌then◌else◌, codes, bytes_eq}
 use Rattle.std.specs.List.{list_any}
 use Rattle.std.specs.Option.{option_map_or}
 use Rattle.std.specs.Ordering.{int_eq}
@@ -19,16 +19,16 @@ use Rattle.hippo_history_statements.specs.Telling.{act_statement, schema_before}
 use Rattle.hippo_model.specs.Validity.{creates_table}
 use Rattle.hippo_history_top.specs.declared.asking.Acts.{Acts}
 use Rattle.hippo_history_top.specs.declared.asking.Acts.TheVariants.{All, Tables}
-use Rattle.hippo_history_top.specs.declared.asking.Bound.{Bound}
-use Rattle.hippo_history_top.specs.declared.asking.Bound.TheVariants.{Number, At}
 use Rattle.hippo_history_top.specs.declared.asking.Excerpt.{Excerpt}
 use Rattle.hippo_history_top.specs.declared.asking.Form.{Form}
 use Rattle.hippo_history_top.specs.declared.asking.Form.TheVariants.{Listing, Script}
 use Rattle.hippo_history_top.specs.declared.asking.Scope.{Scope}
 use Rattle.hippo_history_top.specs.declared.asking.Scope.TheVariants.{Whole, Table}
 use Rattle.hippo_history_top.specs.declared.asking.View.{View}
-use Rattle.hippo_history_top.specs.declared.asking.View.TheVariants.{Entries, Rules, Digest}
+use Rattle.hippo_history_top.specs.declared.asking.View.TheVariants.{Entries, Rules, Users, Digest}
 use Rattle.hippo_history_formats.specs.Formats.{entry_by}
+use Rattle.hippo_history_top.specs.Dating.{is_from, is_to, up_to, moments_of, dated_line}
+use Rattle.hippo_history_top.specs.Granting.{grants_of, grants_shown}
 use Rattle.hippo_history_top.specs.Ruling.{rules_shown}
 use Rattle.hippo_history_top.specs.Digests.{digest_shown}
 
@@ -56,15 +56,6 @@ is_in_scope known (Table table) act = speaks_of known table act
 abbrev pub is_of : Acts → Act → Bool
 is_of All act = true
 is_of Tables act = creates_table act
-
--- whether an entry is at a bound or after it, and whether it is at a bound or before it
-abbrev pub is_from : Bound → Entry → Bool
-is_from (Number number) entry = nat_le number entry.seq
-is_from (At moment) entry = int_le moment entry.moment
-
-abbrev pub is_to : Bound → Entry → Bool
-is_to (Number number) entry = nat_le entry.seq number
-is_to (At moment) entry = int_le entry.moment moment
 
 -- whether an entry is asked for
 abbrev pub is_in_excerpt : KnownNames → Excerpt → Entry → Bool
@@ -125,9 +116,12 @@ abbrev pub entries_told : History → Excerpt → Option Moment → History → 
 entries_told history excerpt clock entries =
     entries_where (is_told history excerpt) (told_as history excerpt.form) clock entries
 
--- what is asked for of a history: an excerpt, the rules in force after its first entries, or the
--- digest of its first entries
+-- what is asked for of a history: an excerpt, or the rules in force, the authorizations in force or
+-- the digest after its first entries
 abbrev pub shown_text : View → History → Txt
 shown_text (Entries excerpt) history = entries_told history excerpt None history
-shown_text (Rules page) history = rules_shown page.format page.scope (take page.last history)
+shown_text (Rules page) history =
+    rules_shown (dated_line page.format (moments_of history)) page.scope (up_to page.last history)
+shown_text (Users roster) history =
+    grants_shown roster.format (grants_of (up_to roster.last history))
 shown_text (Digest last) history = digest_shown (take last history)

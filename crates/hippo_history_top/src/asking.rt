@@ -51,9 +51,17 @@ pub struct Excerpt {
 /// how it is shown.
 #[derive(Drop)]
 pub struct Page {
-    /// The number of the last entry that is taken into account.
-    pub last: u64,
+    /// The end of the entries that are taken into account.
+    pub last: Bound,
     pub scope: Scope,
+    pub format: Format,
+}
+
+/// A list of the authorizations in force after some entries, and how it is shown.
+#[derive(Drop)]
+pub struct Roster {
+    /// The end of the entries that are taken into account.
+    pub last: Bound,
     pub format: Format,
 }
 
@@ -63,6 +71,8 @@ pub enum View {
     Entries(Excerpt),
     /// The rules in force.
     Rules(Page),
+    /// The authorizations in force.
+    Users(Roster),
     /// The digest of the entries up to this number.
     Digest(u64),
 }

@@ -4,7 +4,7 @@ ghost use Rattle.std.specs.Option.{option_map_or};
 ghost use Rattle.clap.specs.Words.{first_of, rows_of, found_of};
 ghost use Rattle.hippo_stmt_lines.specs.Moments.{moment_in};
 ghost use Rattle.hippo_history_top.specs.declared.asking.Bound.TheVariants.{Number};
-ghost use Rattle.hippo_history_top.specs.CommandLine.{entry_number, bound_of, bound_word, first_in, last_in, number_in};
+ghost use Rattle.hippo_history_top.specs.CommandLine.{entry_number, bound_of, bound_word, first_in, last_in, page_end, number_in};
 
 use crate::asking::Bound;
 use clap::ArgMatches;
@@ -68,6 +68,14 @@ pub(crate) fn last_in(matches: &ArgMatches<'_>) -> Option<Bound>
     ensures { result ≡ last_in (rows_of (found_of matches.now)) }
 {
     bound_or(matches, "to", Bound::Number(LAST))
+}
+
+/// Where the entries end after which rules or authorizations are in force; `None` if the word is not
+/// a bound.
+pub(crate) fn page_end(matches: &ArgMatches<'_>) -> Option<Bound>
+    ensures { result ≡ page_end (rows_of (found_of matches.now)) }
+{
+    bound_or(matches, "at", Bound::Number(LAST))
 }
 
 /// The number that an option gives, or the highest one; `None` if the word is no entry's number.

@@ -1,5 +1,5 @@
-//! What a store holds, in a form that people can read: its entries, the rules in force, or a digest
-//! of its entries. This crate has the command line and the top function.
+//! What a store holds, in a form that people can read: its entries, the rules or the authorizations
+//! in force, or a digest of its entries. This crate has the command line and the top function.
 #![tactic(auto)]
 
 mod arguments;
@@ -9,6 +9,7 @@ mod digest;
 mod endings;
 mod gathering;
 mod lines;
+mod moments;
 mod printing;
 mod reading;
 mod rules;
@@ -16,8 +17,9 @@ mod scope;
 mod showing;
 mod stores;
 mod top;
+mod users;
 
-pub use asking::{Acts, Bound, Call, Excerpt, Form, Page, Scope, View};
+pub use asking::{Acts, Bound, Call, Excerpt, Form, Page, Roster, Scope, View};
 pub use reading::asked_of;
 pub use stores::Stores;
 pub use top::history_top;

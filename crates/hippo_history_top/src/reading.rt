@@ -1,13 +1,13 @@
 //! What the words of a call ask for.
-ghost use Rattle.std.specs.Prelude.{◌≡◌, ◌||◌, codes, map, is_some, option_map, option_and_then, IfOk};
+ghost use Rattle.std.specs.Prelude.{◌≡◌, ◌||◌, not, codes, map, is_some, option_map, option_and_then, IfOk};
 ghost use Rattle.clap.specs.Words.{first_of, rows_of, found_of};
 ghost use Rattle.hippo_program_args.specs.Arguments.{FindsMatches};
 ghost use Rattle.hippo_history_top.specs.declared.asking.View.TheVariants.{Digest};
-ghost use Rattle.hippo_history_top.specs.CommandLine.{showing_command_line, is_on, has_end, entry_fits, has_form, rules_fit, has_selection, digest_fits, options_fit, scope_of, is_text_format, format_fits, shown_form, acts_in, entries_in, page_to, number_in, view_in, call_with, call_in_format, showing_call, asked_of};
+ghost use Rattle.hippo_history_top.specs.CommandLine.{showing_command_line, is_on, has_end, entry_fits, has_form, is_page, page_fits, users_fit, bound_fits, has_selection, digest_fits, options_fit, scope_of, is_text_format, format_fits, shown_form, acts_in, entries_in, page_end, page_to, roster_to, number_in, view_in, call_with, call_in_format, showing_call, asked_of};
 
 use crate::arguments::{ARGUMENTS, is_on};
-use crate::asking::{Acts, Call, Excerpt, Form, Page, Scope, View};
-use crate::bounds::{first_in, last_in, number_in};
+use crate::asking::{Acts, Call, Excerpt, Form, Page, Roster, Scope, View};
+use crate::bounds::{first_in, last_in, number_in, page_end};
 use clap::ArgMatches;
 use hippo_program_args::{format_of, matches_in, text_of, texts_of};
 use hippo_report::Format;
@@ -52,10 +52,42 @@ fn is_of_entries(matches: &ArgMatches<'_>) -> bool
     has_end(matches) || has_form(matches)
 }
 
-fn rules_fit(matches: &ArgMatches<'_>) -> bool
-    ensures { result ≡ rules_fit (rows_of (found_of matches.now)) }
+fn is_page(matches: &ArgMatches<'_>) -> bool
+    ensures { result ≡ is_page (rows_of (found_of matches.now)) }
 {
-    !(is_on(matches, "rules") && is_of_entries(matches))
+    is_on(matches, "rules") || is_on(matches, "users")
+}
+
+fn page_fits(matches: &ArgMatches<'_>) -> bool
+    ensures { result ≡ page_fits (rows_of (found_of matches.now)) }
+{
+    !(is_page(matches) && is_of_entries(matches))
+}
+
+fn is_of_rules(matches: &ArgMatches<'_>) -> bool
+    ensures { result ≡ (is_on (codes "rules") (rows_of (found_of matches.now))
+        || is_some (first_of (codes "table") (rows_of (found_of matches.now)))) }
+{
+    is_on(matches, "rules") || is_there(matches, "table")
+}
+
+fn users_fit(matches: &ArgMatches<'_>) -> bool
+    ensures { result ≡ users_fit (rows_of (found_of matches.now)) }
+{
+    !(is_on(matches, "users") && is_of_rules(matches))
+}
+
+fn has_no_bound(matches: &ArgMatches<'_>) -> bool
+    ensures { result ≡ (not (is_page (rows_of (found_of matches.now)))
+        || is_some (first_of (codes "entry") (rows_of (found_of matches.now)))) }
+{
+    !is_page(matches) || is_there(matches, "entry")
+}
+
+fn bound_fits(matches: &ArgMatches<'_>) -> bool
+    ensures { result ≡ bound_fits (rows_of (found_of matches.now)) }
+{
+    !(is_there(matches, "at") && has_no_bound(matches))
 }
 
 fn has_selection(matches: &ArgMatches<'_>) -> bool
@@ -70,9 +102,9 @@ fn has_selection(matches: &ArgMatches<'_>) -> bool
 fn is_of_no_digest(matches: &ArgMatches<'_>) -> bool
     ensures { result ≡ (has_selection (rows_of (found_of matches.now))
         || has_form (rows_of (found_of matches.now))
-        || is_on (codes "rules") (rows_of (found_of matches.now))) }
+        || is_page (rows_of (found_of matches.now))) }
 {
-    has_selection(matches) || has_form(matches) || is_on(matches, "rules")
+    has_selection(matches) || has_form(matches) || is_page(matches)
 }
 
 fn digest_fits(matches: &ArgMatches<'_>) -> bool
@@ -84,7 +116,11 @@ fn digest_fits(matches: &ArgMatches<'_>) -> bool
 fn fits(matches: &ArgMatches<'_>) -> bool
     ensures { result ≡ options_fit (rows_of (found_of matches.now)) }
 {
-    entry_fits(matches) && rules_fit(matches) && digest_fits(matches)
+    entry_fits(matches)
+        && page_fits(matches)
+        && users_fit(matches)
+        && bound_fits(matches)
+        && digest_fits(matches)
 }
 
 fn scope_of(alloc: Global, matches: &ArgMatches<'_>) -> Result<Option<Scope>, Memory>
@@ -148,14 +184,21 @@ fn excerpt_of(matches: &ArgMatches<'_>, format: Format, scope: Scope) -> Option<
 
 fn page_of(matches: &ArgMatches<'_>, format: Format, scope: Scope) -> Option<View>
     ensures { result ≡ option_map (page_to format scope)
-        (number_in (codes "entry") (rows_of (found_of matches.now))) }
+        (page_end (rows_of (found_of matches.now))) }
 {
-    let last = number_in(matches, "entry")?;
+    let last = page_end(matches)?;
     Some(View::Rules(Page {
         last,
         scope,
         format,
     }))
+}
+
+fn roster_of(matches: &ArgMatches<'_>, format: Format) -> Option<View>
+    ensures { result ≡ option_map (roster_to format) (page_end (rows_of (found_of matches.now))) }
+{
+    let last = page_end(matches)?;
+    Some(View::Users(Roster { last, format }))
 }
 
 fn digest_of(matches: &ArgMatches<'_>) -> Option<View>
@@ -169,6 +212,8 @@ fn view_of(matches: &ArgMatches<'_>, format: Format, scope: Scope) -> Option<Vie
 {
     if is_on(matches, "rules") {
         page_of(matches, format, scope)
+    } else if is_on(matches, "users") {
+        roster_of(matches, format)
     } else if is_on(matches, "digest") {
         digest_of(matches)
     } else {
@@ -239,10 +284,12 @@ fn asked_in(alloc: Global, words: &[&str]) -> Result<Option<Call>, Memory>
 /// Returns `None` if the command does not take the words:
 ///
 /// - a word is unknown, or an option occurs twice;
-/// - a number is out of its bounds, or `--from` or `--to` is neither a number nor a moment; a table's name is not a name, or a format is not one of the
-///   three;
+/// - a number is out of its bounds; the word after `--from`, `--to` or `--at` is neither a number nor
+///   a moment; a table's name is not a name; or a format is not one of the three;
 /// - `--entry` is given with `--from` or `--to`;
-/// - `--rules` is given with `--from`, `--to`, `--tables` or `--script`;
+/// - `--rules` or `--users` is given with `--from`, `--to`, `--tables` or `--script`;
+/// - `--users` is given with `--rules` or `--table`;
+/// - `--at` is given without `--rules` and `--users`, or with `--entry`;
 /// - `--script` is given with another format than text;
 /// - `--digest` is given with anything but `--store` and `--to`, which is then a number.
 ///
@@ -254,6 +301,8 @@ fn asked_in(alloc: Global, words: &[&str]) -> Result<Option<Call>, Memory>
 /// --store clinic.db --tables
 /// --store clinic.db --rules
 /// --store clinic.db --rules --entry 18 --table patient
+/// --store clinic.db --rules --at 2024-03-05T23:59:59Z
+/// --store clinic.db --users
 /// --store clinic.db --rules --format csv
 /// --store clinic.db --digest
 /// --store clinic.db --digest --to 17

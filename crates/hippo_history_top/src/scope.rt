@@ -2,7 +2,8 @@
 ghost use Rattle.std.specs.Prelude.{◌≡◌, ◌&&◌, bytes_eq, IfOk};
 ghost use Rattle.std.specs.List.{list_any};
 ghost use Rattle.hippo_model.specs.Validity.{creates_table};
-ghost use Rattle.hippo_history_top.specs.Showing.{is_question_of, speaks_of, is_in_scope, is_from, is_to, is_of, is_in_excerpt};
+ghost use Rattle.hippo_history_top.specs.Dating.{is_from, is_to};
+ghost use Rattle.hippo_history_top.specs.Showing.{is_question_of, speaks_of, is_in_scope, is_of, is_in_excerpt};
 
 use crate::asking::{Acts, Bound, Excerpt, Scope};
 use hippo_model::{Act, Entry, Query};
@@ -69,7 +70,8 @@ fn is_from(bound: Bound, entry: &Entry) -> bool
     }
 }
 
-fn is_to(bound: Bound, entry: &Entry) -> bool
+/// Whether an entry is at a bound or before it.
+pub(crate) fn is_to(bound: Bound, entry: &Entry) -> bool
     ensures { result ≡ is_to bound entry.now }
 {
     match bound {

@@ -7,6 +7,10 @@ ghost use Rattle.hippo_keeper.specs.Keeping.{IsReady, IsAfterCall};
 ghost use Rattle.hippo_keeper.specs.Selecting.{stored_versions};
 ghost use Rattle.hippo_policy.specs.Books.{BookRepresents};
 ghost use Rattle.hippo_program_args.specs.Starting.{IsIdle, SaysDamaged, BeginsDamaged};
+ghost use Rattle.hippo_replay.specs.declared.state.State.{State as LoadedState};
+ghost use Rattle.hippo_history_top.specs.declared.asking.View.TheVariants.{Rules as RulesView, Users as UsersView};
+ghost use Rattle.hippo_history_top.specs.Dating.{count_to, dated_line};
+ghost use Rattle.hippo_history_top.specs.Granting.{grants_shown};
 ghost use Rattle.hippo_history_top.specs.Ruling.{rules_by_names};
 ghost use Rattle.hippo_history_top.specs.Progress.{IsReadable, WritesPage, ShowsLoaded};
 ghost use Rattle.hippo_history_top.specs.declared.asking.Call.{Call as AskedCall};
@@ -14,35 +18,112 @@ ghost use Rattle.hippo_history_top.specs.CommandLine.{asked_of};
 ghost use Rattle.hippo_program_args.specs.Endings.{ending_as_call};
 ghost use Rattle.hippo_history_top.specs.Endings.{showing_statuses, ends_showing};
 ghost use Rattle.hippo_history_top.specs.Outcomes.{ShowsView, BeginsView, Ends};
-ghost use Rattle.hippo_history_top.specs.Saying.{showing_usage, missing_line, CountsWrites};
+ghost use Rattle.hippo_history_top.specs.Saying.{showing_usage, missing_line, Writes, CountsWrites};
 
-use crate::asking::{Page, View};
+use crate::asking::{Page, Roster, View};
 use crate::digest::show_digest;
-use crate::endings::served_or;
+use crate::endings::{ending_of, served_or};
+use crate::gathering::gather_all;
+use crate::moments::Moments;
 use crate::printing::{miss, refuse, write_lines};
 use crate::reading::asked_of;
 use crate::rules::append_rules;
 use crate::showing::{Guide, show_all};
 use crate::stores::Stores;
+use crate::users::{Grants, append_grants};
+use hippo_history_formats::Grant;
 use hippo_io::Sink;
 use hippo_keeper::{Keeper, Steps};
 use hippo_program_args::{Ending, stop};
 use hippo_replay::{State, load};
-use hippo_values::{Memory, Txt};
+use hippo_report::Format;
+use hippo_values::{Memory, Moment, Txt};
 use std::alloc::Global;
 use std::sync::ledger::Ledger;
 
 // Writes the rules that are in force.
-fn write_rules<K: Sink>(alloc: Global, page: &Page, state: &State, sink: &mut K) -> Option<Ending>
+fn write_rules<K: Sink>(
+    alloc: Global,
+    page: &Page,
+    state: &State,
+    moments: &[Moment],
+    sink: &mut K,
+) -> Option<Ending>
     ensures writes { WritesPage (BookRepresents state.now.book)
-        (λ history. rules_by_names state.now.catalog.names page.now.format page.now.scope
-        (take page.now.last history)) result
+        (λ history. rules_by_names state.now.catalog.names
+        (dated_line page.now.format moments.now) page.now.scope
+        (take (count_to page.now.last moments.now) history)) result
         (K.written sink.old) (K.written sink.new) (K.faults sink.old) (K.faults sink.new) }
 {
     let mut lines = Txt::new(alloc);
-    match append_rules(alloc, &state.catalog, &state.book, page, &mut lines) {
+    match append_rules(alloc, &state.catalog, &state.book, moments, page, &mut lines) {
         Ok(()) => write_lines(sink, lines.as_str()),
         Err(Memory) => Some(Ending::NoMemory),
+    }
+}
+
+// Shows the rules that are in force, and drops the state.
+fn show_rules<K: Sink, P: Keeper, L: Ledger>(
+    alloc: Global,
+    page: &Page,
+    state: State,
+    sink: &mut K,
+    keeper: &mut P,
+    steps: &mut Steps<L>,
+) -> Ending
+    requires readable { IsReadable (P.state keeper.old) }
+    ensures shows { ShowsLoaded state (RulesView page.now) result
+        (P.state keeper.old) (P.state keeper.new) (K.written sink.old) (K.written sink.new)
+        (K.faults sink.old) (K.faults sink.new) steps.old steps.new }
+{
+    let mut moments = Moments::new(alloc);
+    match gather_all(alloc, &mut moments, keeper, steps) {
+        Ok(()) => {
+            let cut = write_rules(alloc, page, &state, moments.as_slice(), sink);
+            state.close();
+            served_or(cut)
+        }
+        Err(fault) => {
+            state.close();
+            ending_of(fault)
+        }
+    }
+}
+
+// Writes the authorizations that are in force.
+fn write_grants<K: Sink>(
+    alloc: Global,
+    format: Format,
+    grants: &[Grant],
+    sink: &mut K,
+) -> Option<Ending>
+    ensures writes { Writes (grants_shown format grants.now) result
+        (K.written sink.old) (K.written sink.new) (K.faults sink.old) (K.faults sink.new) }
+{
+    let mut lines = Txt::new(alloc);
+    match append_grants(alloc, format, grants, &mut lines) {
+        Ok(()) => write_lines(sink, lines.as_str()),
+        Err(Memory) => Some(Ending::NoMemory),
+    }
+}
+
+// Shows the authorizations that are in force.
+fn show_users<K: Sink, P: Keeper, L: Ledger>(
+    alloc: Global,
+    roster: &Roster,
+    sink: &mut K,
+    keeper: &mut P,
+    steps: &mut Steps<L>,
+) -> Ending
+    requires readable { IsReadable (P.state keeper.old) }
+    ensures shows { (state : LoadedState) → ShowsLoaded state (UsersView roster.now) result
+        (P.state keeper.old) (P.state keeper.new) (K.written sink.old) (K.written sink.new)
+        (K.faults sink.old) (K.faults sink.new) steps.old steps.new }
+{
+    let mut grants = Grants::new(alloc, roster.last);
+    match gather_all(alloc, &mut grants, keeper, steps) {
+        Ok(()) => served_or(write_grants(alloc, roster.format, grants.as_slice(), sink)),
+        Err(fault) => ending_of(fault),
     }
 }
 
@@ -71,11 +152,10 @@ fn show_view<K: Sink, P: Keeper, L: Ledger>(
             state.close();
             ending
         }
-        View::Rules(page) => {
-            let cut = write_rules(alloc, page, &state, sink);
-            let ending = served_or(cut);
+        View::Rules(page) => show_rules(alloc, page, state, sink, keeper, steps),
+        View::Users(roster) => {
             state.close();
-            ending
+            show_users(alloc, roster, sink, keeper, steps)
         }
         View::Digest(last) => {
             state.close();
@@ -130,8 +210,9 @@ fn show<K: Sink, P: Keeper, L: Ledger>(
 ///
 /// Once the keeper has started, the stored entries stay as they were found. They are read in
 /// pieces. The first read loads the history, so that damage is reported before anything else is
-/// written. If entries or their digest are asked for, a second read shows them. The rules in force
-/// are computed in memory from what was loaded, and then written.
+/// written. A second read shows the entries or computes their digest. For the rules in force it finds
+/// the moments of their entries, and for the authorizations in force the entries that gave them; both
+/// are put together in memory and then written.
 pub fn history_top<D: Stores, K: Sink, P: Keeper, L: Ledger>(
     alloc: Global,
     words: &[Txt],
