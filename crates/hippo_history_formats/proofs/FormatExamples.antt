@@ -10,7 +10,7 @@ use Rattle.hippo_model.specs.declared.schema.Column.{Column}
 use Rattle.hippo_model.specs.declared.schema.ColumnKind.TheVariants.{Text as TextColumn}
 use Rattle.hippo_model.specs.declared.schema.Schema.{Schema}
 use Rattle.hippo_model.specs.Rules.{allowed, revoked}
-use Rattle.hippo_history_formats.specs.Formats.{json_line, csv_line, entry_data, entry_fields, rule_data, rule_fields, grant_data, grant_fields, grant_text}
+use Rattle.hippo_history_formats.specs.Formats.{json_line, csv_line, entry_data, entry_fields, rule_data, rule_fields, grant_data, grant_fields, grant_words}
 
 abbrev column : Txt → Column
 column name = record { name = name; kind = TextColumn; not_null = false }
@@ -72,7 +72,7 @@ a_column_that_is_revoked : csv_line (rule_fields (codes "treatment") (codes "nur
 unfolding digits escaped fields_text is_blank
 a_column_that_is_revoked = refl
 
-an_authorization_as_a_line : grant_text 7 morning (codes "ann") (codes "treatment") (codes "nurse")
+an_authorization_as_a_line : grant_words 7 morning (codes "ann") (codes "treatment") (codes "nurse")
     ≡ codes "7 2024-03-04T07:00:00Z ann treatment nurse\n"
 unfolding digits
 an_authorization_as_a_line = refl

@@ -159,14 +159,14 @@ abbrev pub grant_fields : ℕ → Txt → Name → Name → Name → List Txt
 grant_fields entry moment user purpose recipient =
     decimal entry ∷ moment ∷ user ∷ purpose ∷ recipient ∷ []
 
-abbrev pub grant_text : ℕ → Txt → Name → Name → Name → Txt
-grant_text entry moment user purpose recipient =
+abbrev pub grant_words : ℕ → Txt → Name → Name → Name → Txt
+grant_words entry moment user purpose recipient =
     decimal entry ++ (codes " " ++ (moment ++ (codes " " ++ (user
     ++ (codes " " ++ (purpose ++ (codes " " ++ (recipient ++ codes "\n"))))))))
 
 abbrev pub grant_line : Format → ℕ → Moment → Name → Name → Name → Txt
 grant_line formats.Text entry moment user purpose recipient =
-    grant_text entry (moment_text moment) user purpose recipient
+    grant_words entry (moment_text moment) user purpose recipient
 grant_line formats.Json entry moment user purpose recipient =
     json_line (grant_data entry (moment_text moment) user purpose recipient)
 grant_line formats.Csv entry moment user purpose recipient =

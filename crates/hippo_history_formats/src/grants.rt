@@ -1,6 +1,6 @@
 //! An authorization as a line in each format.
 ghost use Rattle.std.specs.Prelude.{◌≡◌, ◌++◌, OnOk, codes};
-ghost use Rattle.hippo_history_formats.specs.Formats.{grant_text, grant_line};
+ghost use Rattle.hippo_history_formats.specs.Formats.{grant_words, grant_line};
 
 use crate::objects::grant_json;
 use crate::records::{append_record, grant_record};
@@ -30,7 +30,7 @@ fn append_word(word: &str, out: &mut Txt) -> Result<(), Memory>
 }
 
 fn append_text(grant: &Grant, moment: &str, out: &mut Txt) -> Result<(), Memory>
-    ensures { OnOk result (out.new ≡ out.old ++ grant_text grant.now.entry moment.now
+    ensures { OnOk result (out.new ≡ out.old ++ grant_words grant.now.entry moment.now
         grant.now.user grant.now.purpose grant.now.recipient) }
 {
     out.append(Buffer::new().format(grant.entry))?;

@@ -1,5 +1,5 @@
-//! An entry of a history, the rule of a column, and an authorization, as a line of text, of JSON (RFC
-//! 8259) or of CSV (RFC 4180).
+//! An entry of a history, the rule of a column, and an authorization, as a line of text, of JSON
+//! (RFC 8259) or of CSV (RFC 4180).
 #![tactic(auto)]
 
 mod grants;

@@ -11,7 +11,9 @@ ghost use Rattle.hippo_history_formats.specs.Shown.{shown_data, column_data};
 use crate::grants::Grant;
 use crate::members::{put_days, put_number, put_text, put_text_or_null};
 use crate::questions::Question;
-use crate::rulings::{ColumnRule, column_name, days_of, item_of, opt_of, ruling_number, ruling_word};
+use crate::rulings::{
+    ColumnRule, column_name, days_of, item_of, opt_of, ruling_number, ruling_word,
+};
 use crate::told::{Shown, Told};
 use hippo_model::RuleAt;
 use serde_json::{Map, Value};

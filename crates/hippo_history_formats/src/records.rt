@@ -9,7 +9,9 @@ ghost use Rattle.hippo_history_formats.specs.Shown.{told_fields, shown_fields, c
 
 use crate::grants::Grant;
 use crate::questions::Question;
-use crate::rulings::{ColumnRule, column_name, days_of, item_of, opt_of, ruling_number, ruling_word};
+use crate::rulings::{
+    ColumnRule, column_name, days_of, item_of, opt_of, ruling_number, ruling_word,
+};
 use crate::told::{Shown, Told};
 use csv::{Error, StringRecord, WriterBuilder};
 use hippo_model::RuleAt;

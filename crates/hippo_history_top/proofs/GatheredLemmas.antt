@@ -23,7 +23,7 @@ use Rattle.hippo_history_top.specs.declared.asking.Roster.{Roster}
 use Rattle.hippo_history_top.specs.declared.asking.View.{View}
 use Rattle.hippo_history_top.specs.declared.asking.View.TheVariants.{Rules, Users}
 use Rattle.hippo_history_formats.specs.declared.grants.Grant.{Grant}
-use Rattle.hippo_history_top.specs.Dating.{up_to, moments_of, count_to, dated_line}
+use Rattle.hippo_history_top.specs.Dating.{entries_to, moments_of, count_to, dated_line}
 use Rattle.hippo_history_top.specs.Endings.{ends_showing, ending_of}
 use Rattle.hippo_history_top.specs.Gathering.{GathersAll}
 use Rattle.hippo_history_top.specs.Granting.{grants_of, grants_shown}
@@ -95,12 +95,12 @@ module _ (state : State) (before after : KeeperState) (ticks ticks' : ℕ) (writ
       (λ history is stands. (stands.book, rules_named state page moments history stands is)) written written' faults faults' cut writes
 
   pub loaded_users : (roster : Roster) (grants start : List Grant) → start ≡ []
-      → GathersAll (λ read. start ≡ grants_of (up_to roster.last read)) (λ read. grants ≡ grants_of (up_to roster.last read)) (well Fault) before after ticks ticks'
+      → GathersAll (λ read. start ≡ grants_of (entries_to roster.last read)) (λ read. grants ≡ grants_of (entries_to roster.last read)) (well Fault) before after ticks ticks'
       → Writes (grants_shown roster.format grants) cut written written' faults faults'
       → ShowsLoaded state (Users roster) (unwrap_or cut Served) before after written written' faults faults' ticks ticks'
   loaded_users roster grants start none all writes =
       let text : Txt = grants_shown roster.format grants in
       let IsText : History → Type 0 = λ history. text ≡ shown_text (Users roster) history in
-      gathered_page (λ read. start ≡ grants_of (up_to roster.last read)) (λ read. grants ≡ grants_of (up_to roster.last read)) state before after ticks ticks' (Users roster) all none IsText
+      gathered_page (λ read. start ≡ grants_of (entries_to roster.last read)) (λ read. grants ≡ grants_of (entries_to roster.last read)) state before after ticks ticks' (Users roster) all none IsText
       (λ history. shown_text (Users roster) history) (λ history is stands. (ap (grants_shown roster.format) is, refl)) written written' faults faults' cut
       (page_written IsText (λ history. shown_text (Users roster) history) written faults written' faults' text (λ history is. is) cut writes)

@@ -13,8 +13,8 @@ use Rattle.hippo_model.specs.declared.entry.Entry.{Entry}
 use Rattle.hippo_model.specs.Terms.{History}
 use Rattle.hippo_history_formats.specs.declared.grants.Grant.{Grant}
 use Rattle.hippo_history_top.specs.declared.asking.Bound.{Bound}
-use Rattle.hippo_history_top.specs.Dating.{is_to, up_to}
-use Rattle.hippo_history_top.specs.Granting.{is_about, grant_of, granted, grants_of, is_left_by}
+use Rattle.hippo_history_top.specs.Dating.{is_to, entries_to}
+use Rattle.hippo_history_top.specs.Granting.{is_about, grant_by, granted, grants_of, is_left_by}
 
 module _ (entry : Entry) where
   abbrev is_left : Grant → Bool
@@ -30,8 +30,8 @@ module _ (entry : Entry) where
   still_granted : (number : ℕ) (moment : Moment) (act : Act) (later : History) → granted number moment act (later ++ entry ∷ []) ≡ filter is_left (granted number moment act later)
   still_granted number moment (Authorize user purpose recipient) later =
       let about : Entry → Bool = λ e. is_about user purpose recipient e.act in
-      ap (λ (b : Bool). cond b [] (grant_of number moment user purpose recipient ∷ [])) (list_any-append about later (entry ∷ []))
-      ∙ still (list_any about later) (is_about user purpose recipient entry.act) (grant_of number moment user purpose recipient) refl
+      ap (λ (b : Bool). cond b [] (grant_by number moment user purpose recipient ∷ [])) (list_any-append about later (entry ∷ []))
+      ∙ still (list_any about later) (is_about user purpose recipient entry.act) (grant_by number moment user purpose recipient) refl
   still_granted number moment act later = refl
 
   -- the last entry replaces what it is about, and may give an authorization itself
@@ -51,14 +51,14 @@ all_left act leaves (grant ∷ grants) =
     ap (λ (b : Bool). cond b (grant ∷ filter (is_left_by act) grants) (filter (is_left_by act) grants)) (leaves grant) ∙ ap (λ (l : List Grant). grant ∷ l) (all_left act leaves grants)
 
 -- an entry after the bound counts for nothing, and another one is taken in
-module _ (bound : Bound) (read : History) (entry : Entry) (old : List Grant) (so_far : old ≡ grants_of (up_to bound read)) where
-  grown : (test : Bool) → is_to bound entry ≡ test → up_to bound (read ++ entry ∷ []) ≡ up_to bound read ++ cond test (entry ∷ []) []
-  grown test is = filter-append (is_to bound) read (entry ∷ []) ∙ ap (λ (b : Bool). up_to bound read ++ cond b (entry ∷ []) []) is
+module _ (bound : Bound) (read : History) (entry : Entry) (old : List Grant) (so_far : old ≡ grants_of (entries_to bound read)) where
+  grown : (test : Bool) → is_to bound entry ≡ test → entries_to bound (read ++ entry ∷ []) ≡ entries_to bound read ++ cond test (entry ∷ []) []
+  grown test is = filter-append (is_to bound) read (entry ∷ []) ∙ ap (λ (b : Bool). entries_to bound read ++ cond b (entry ∷ []) []) is
 
-  pub grants-past : is_to bound entry ≡ false → old ≡ grants_of (up_to bound (read ++ entry ∷ []))
-  grants-past is = so_far ∙ ap grants_of (sym (grown false is ∙ append-nil (up_to bound read)))
+  pub grants-past : is_to bound entry ≡ false → old ≡ grants_of (entries_to bound (read ++ entry ∷ []))
+  grants-past is = so_far ∙ ap grants_of (sym (grown false is ∙ append-nil (entries_to bound read)))
 
-  pub grants-within : is_to bound entry ≡ true → filter (is_left_by entry.act) old ++ granted entry.seq entry.moment entry.act [] ≡ grants_of (up_to bound (read ++ entry ∷ []))
+  pub grants-within : is_to bound entry ≡ true → filter (is_left_by entry.act) old ++ granted entry.seq entry.moment entry.act [] ≡ grants_of (entries_to bound (read ++ entry ∷ []))
   grants-within is =
       ap (λ (l : List Grant). filter (is_left_by entry.act) l ++ granted entry.seq entry.moment entry.act []) so_far
-      ∙ sym (grants_of-more entry (up_to bound read)) ∙ ap grants_of (sym (grown true is))
+      ∙ sym (grants_of-more entry (entries_to bound read)) ∙ ap grants_of (sym (grown true is))

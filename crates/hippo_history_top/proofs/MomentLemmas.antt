@@ -19,7 +19,7 @@ use Rattle.hippo_model_laws.proofs.ValidFronts.{holds_of_each_valid, next_number
 use Rattle.hippo_typing.specs.Meanings.{meaning}
 use Rattle.hippo_history_top.specs.declared.asking.Bound.{Bound}
 use Rattle.hippo_history_top.specs.declared.asking.Bound.TheVariants.{Number, At}
-use Rattle.hippo_history_top.specs.Dating.{is_to, up_to, moments_of, count_to}
+use Rattle.hippo_history_top.specs.Dating.{is_to, entries_to, moments_of, count_to}
 
 pub one_moment_more : (read : History) (entry : Entry) → moments_of (read ++ entry ∷ []) ≡ moments_of read ++ entry.moment ∷ []
 one_moment_more read entry = map-append (λ (e : Entry). e.moment) read (entry ∷ [])
@@ -45,17 +45,17 @@ all_of list x n front is within = ap (λ (l : List _). l ++ x ∷ []) (is ∙ ta
 -- by a number
 module _ (n : ℕ) where
   abbrev FirstNumbers : History → Type 0
-  FirstNumbers history = up_to (Number n) history ≡ take n history
+  FirstNumbers history = entries_to (Number n) history ≡ take n history
 
   next : (history : History) (entry : Entry) → FirstNumbers history → entry.seq ≡ length history + 1 → (test : Bool) → nat_le entry.seq n ≡ test
-      → up_to (Number n) history ++ cond test (entry ∷ []) [] ≡ take n (history ++ entry ∷ [])
+      → entries_to (Number n) history ++ cond test (entry ∷ []) [] ≡ take n (history ++ entry ∷ [])
   next history entry so_far seq true is =
       let within : entry.seq ≤ n = grind (nat_tests, is) in
-      all_of history entry n (up_to (Number n) history) so_far (omega (arith, seq, within))
+      all_of history entry n (entries_to (Number n) history) so_far (omega (arith, seq, within))
       ∙ sym (take_whole n (history ++ entry ∷ []) (let sum = length-append history (entry ∷ []) in omega (arith, seq, within, sum)))
   next history entry so_far seq false is =
       let past : n < entry.seq = grind (nat_tests, is) in
-      append-nil (up_to (Number n) history) ∙ so_far ∙ sym (take_before n history entry (omega (arith, seq, past)))
+      append-nil (entries_to (Number n) history) ∙ so_far ∙ sym (take_before n history entry (omega (arith, seq, past)))
 
   pub first_numbers : (history : History) → is_valid meaning history ≡ true → FirstNumbers history
   first_numbers history valid =
@@ -73,7 +73,7 @@ module _ (at : Moment) where
 
   -- the entries up to the moment are the first ones; if the last entry is among them, all are
   record FirstMoments (history : History) : Type 0 where
-    first : up_to (At at) history ≡ take (count_by is_by (moments_of history)) history
+    first : entries_to (At at) history ≡ take (count_by is_by (moments_of history)) history
     all : option_map_or is_by (last_moment history) true ≡ true → count_by is_by (moments_of history) ≡ length history
     within : count_by is_by (moments_of history) ≤ length history
 
@@ -101,8 +101,8 @@ module _ (at : Moment) where
         longer ∙ ap (λ (b : Bool). count + (cond b 1 0 + 0)) is ∙ omega (arith, all, one) in
         record {
           first =
-              filter-append (is_to (At at)) history (entry ∷ []) ∙ ap (λ (b : Bool). up_to (At at) history ++ cond b (entry ∷ []) []) is
-              ∙ all_of history entry count (up_to (At at) history) so_far.first (omega (arith, all))
+              filter-append (is_to (At at)) history (entry ∷ []) ∙ ap (λ (b : Bool). entries_to (At at) history ++ cond b (entry ∷ []) []) is
+              ∙ all_of history entry count (entries_to (At at) history) so_far.first (omega (arith, all))
               ∙ sym (take_whole (count_by is_by (moments_of (history ++ entry ∷ []))) (history ++ entry ∷ []) (omega (arith, sum)));
           all = λ e. sum;
           within = omega (arith, sum);
@@ -112,8 +112,8 @@ module _ (at : Moment) where
         let within = so_far.within in
         record {
           first =
-              filter-append (is_to (At at)) history (entry ∷ []) ∙ ap (λ (b : Bool). up_to (At at) history ++ cond b (entry ∷ []) []) is
-              ∙ append-nil (up_to (At at) history) ∙ so_far.first ∙ sym (take_before count history entry within)
+              filter-append (is_to (At at)) history (entry ∷ []) ∙ ap (λ (b : Bool). entries_to (At at) history ++ cond b (entry ∷ []) []) is
+              ∙ append-nil (entries_to (At at) history) ∙ so_far.first ∙ sym (take_before count history entry within)
               ∙ ap (λ (n : ℕ). take n (history ++ entry ∷ [])) (sym same);
           all = λ e. absurd (false≢true (sym is ∙ sym (ap (λ (last : Option Moment). option_map_or is_by last true) last_is) ∙ e));
           within = omega (arith, same, within, one);
@@ -124,13 +124,13 @@ module _ (at : Moment) where
       (and_parts (is_keepable entry && entry.seq == length history + 1) (keeps_order history entry.moment)
       (and_parts (is_keepable entry && entry.seq == length history + 1 && keeps_order history entry.moment) (is_acceptable meaning history entry.act) may).0).1
 
-  pub first_moments : (history : History) → is_valid meaning history ≡ true → up_to (At at) history ≡ take (count_by is_by (moments_of history)) history
+  pub first_moments : (history : History) → is_valid meaning history ≡ true → entries_to (At at) history ≡ take (count_by is_by (moments_of history)) history
   first_moments history valid =
       (holds_of_each_valid meaning FirstMoments (λ h entry good so_far may. by_test h entry so_far (in_order h entry may) (is_by entry.moment) refl)
       (record { first = refl; all = λ e. refl; within = omega arith }) history valid).first
 
 -- the entries of a valid history up to a bound are its first ones
-pub first_to_bound : (bound : Bound) (history : History) → is_valid meaning history ≡ true → up_to bound history ≡ take (count_to bound (moments_of history)) history
+pub first_to_bound : (bound : Bound) (history : History) → is_valid meaning history ≡ true → entries_to bound history ≡ take (count_to bound (moments_of history)) history
 first_to_bound (Number n) history valid = first_numbers n history valid
 first_to_bound (At at) history valid = first_moments at history valid
 

@@ -135,8 +135,8 @@ excerpt_in rows format scope first last =
       form = shown_form rows format;
     }
 
-abbrev pub entries_in : List Row → Format → Scope → Option View
-entries_in rows format scope =
+abbrev pub excerpt_view : List Row → Format → Scope → Option View
+excerpt_view rows format scope =
     option_and_then
     (λ first. option_map (λ last. Entries (excerpt_in rows format scope first last)) (last_in rows))
     (first_in rows)
@@ -148,15 +148,15 @@ abbrev pub roster_to : Format → Bound → View
 roster_to format last = Users (record { last = last; format = format })
 
 -- the number that an option gives, or the highest one
-abbrev pub number_in : Txt → List Row → Option ℕ
-number_in name rows = option_map_or entry_number (first_of name rows) (Some 4000000)
+abbrev pub number_given : Txt → List Row → Option ℕ
+number_given name rows = option_map_or entry_number (first_of name rows) (Some 4000000)
 
 abbrev pub view_in : List Row → Format → Scope → Option View
 view_in rows format scope =
     if is_on (codes "rules") rows then option_map (page_to format scope) (page_end rows)
     else if is_on (codes "users") rows then option_map (roster_to format) (page_end rows)
-    else if is_on (codes "digest") rows then option_map Digest (number_in (codes "to") rows)
-    else entries_in rows format scope
+    else if is_on (codes "digest") rows then option_map Digest (number_given (codes "to") rows)
+    else excerpt_view rows format scope
 
 abbrev pub call_with : List Row → View → Call
 call_with rows view =

@@ -20,8 +20,8 @@ is_to (Number number) entry = nat_le entry.seq number
 is_to (At moment) entry = int_le entry.moment moment
 
 -- the entries at a bound or before it
-abbrev pub up_to : Bound → History → History
-up_to bound history = filter (is_to bound) history
+abbrev pub entries_to : Bound → History → History
+entries_to bound history = filter (is_to bound) history
 
 -- the moments of the entries of a history
 abbrev pub moments_of : History → List Moment

@@ -18,8 +18,8 @@ use Rattle.hippo_history_formats.specs.Formats.{grant_line}
 abbrev pub is_about : Name → Name → Name → Act → Bool
 is_about user purpose recipient act = is_some (authorization_in user purpose recipient 0 act)
 
-abbrev pub grant_of : ℕ → Moment → Name → Name → Name → Grant
-grant_of number moment user purpose recipient =
+abbrev pub grant_by : ℕ → Moment → Name → Name → Name → Grant
+grant_by number moment user purpose recipient =
     record {
       entry = number;
       moment = moment;
@@ -32,7 +32,7 @@ grant_of number moment user purpose recipient =
 abbrev pub granted : ℕ → Moment → Act → History → List Grant
 granted number moment (Authorize user purpose recipient) later =
     if list_any (λ entry. is_about user purpose recipient entry.act) later then []
-    else grant_of number moment user purpose recipient ∷ []
+    else grant_by number moment user purpose recipient ∷ []
 granted number moment act later = []
 
 -- the authorizations that are in force after a history, by the entries that gave them

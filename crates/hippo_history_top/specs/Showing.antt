@@ -27,7 +27,7 @@ use Rattle.hippo_history_top.specs.declared.asking.Scope.TheVariants.{Whole, Tab
 use Rattle.hippo_history_top.specs.declared.asking.View.{View}
 use Rattle.hippo_history_top.specs.declared.asking.View.TheVariants.{Entries, Rules, Users, Digest}
 use Rattle.hippo_history_formats.specs.Formats.{entry_by}
-use Rattle.hippo_history_top.specs.Dating.{is_from, is_to, up_to, moments_of, dated_line}
+use Rattle.hippo_history_top.specs.Dating.{is_from, is_to, entries_to, moments_of, dated_line}
 use Rattle.hippo_history_top.specs.Granting.{grants_of, grants_shown}
 use Rattle.hippo_history_top.specs.Ruling.{rules_shown}
 use Rattle.hippo_history_top.specs.Digests.{digest_shown}
@@ -121,7 +121,7 @@ entries_told history excerpt clock entries =
 abbrev pub shown_text : View → History → Txt
 shown_text (Entries excerpt) history = entries_told history excerpt None history
 shown_text (Rules page) history =
-    rules_shown (dated_line page.format (moments_of history)) page.scope (up_to page.last history)
+    rules_shown (dated_line page.format (moments_of history)) page.scope (entries_to page.last history)
 shown_text (Users roster) history =
-    grants_shown roster.format (grants_of (up_to roster.last history))
+    grants_shown roster.format (grants_of (entries_to roster.last history))
 shown_text (Digest last) history = digest_shown (take last history)

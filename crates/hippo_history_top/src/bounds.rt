@@ -4,7 +4,7 @@ ghost use Rattle.std.specs.Option.{option_map_or};
 ghost use Rattle.clap.specs.Words.{first_of, rows_of, found_of};
 ghost use Rattle.hippo_stmt_lines.specs.Moments.{moment_in};
 ghost use Rattle.hippo_history_top.specs.declared.asking.Bound.TheVariants.{Number};
-ghost use Rattle.hippo_history_top.specs.CommandLine.{entry_number, bound_of, bound_word, first_in, last_in, page_end, number_in};
+ghost use Rattle.hippo_history_top.specs.CommandLine.{entry_number, bound_of, bound_word, first_in, last_in, page_end, number_given};
 
 use crate::asking::Bound;
 use clap::ArgMatches;
@@ -48,7 +48,8 @@ fn bound_of(word: &str) -> Option<Bound>
 // The word of a bound: one entry alone is both bounds.
 fn bound_or(matches: &ArgMatches<'_>, name: &str, otherwise: Bound) -> Option<Bound>
     ensures { result
-        ≡ option_map_or bound_of (bound_word name.now (rows_of (found_of matches.now))) (Some otherwise) }
+        ≡ option_map_or bound_of (bound_word name.now (rows_of (found_of matches.now)))
+        (Some otherwise) }
 {
     match text_of(matches, "entry").or(text_of(matches, name)) {
         None => Some(otherwise),
@@ -70,8 +71,8 @@ pub(crate) fn last_in(matches: &ArgMatches<'_>) -> Option<Bound>
     bound_or(matches, "to", Bound::Number(LAST))
 }
 
-/// Where the entries end after which rules or authorizations are in force; `None` if the word is not
-/// a bound.
+/// Where the entries end after which rules or authorizations are in force; `None` if the word is
+/// not a bound.
 pub(crate) fn page_end(matches: &ArgMatches<'_>) -> Option<Bound>
     ensures { result ≡ page_end (rows_of (found_of matches.now)) }
 {
@@ -79,8 +80,8 @@ pub(crate) fn page_end(matches: &ArgMatches<'_>) -> Option<Bound>
 }
 
 /// The number that an option gives, or the highest one; `None` if the word is no entry's number.
-pub(crate) fn number_in(matches: &ArgMatches<'_>, name: &str) -> Option<u64>
-    ensures { result ≡ number_in name.now (rows_of (found_of matches.now)) }
+pub(crate) fn number_given(matches: &ArgMatches<'_>, name: &str) -> Option<u64>
+    ensures { result ≡ number_given name.now (rows_of (found_of matches.now)) }
 {
     match text_of(matches, name) {
         None => Some(LAST),

@@ -25,11 +25,7 @@ pub(crate) trait Gather {
 }
 
 // Goes on over the entry that has this stored form. In a store that was loaded there is one.
-fn cover_kept<G: Gather>(
-    alloc: Global,
-    kept: &StoredEntry,
-    gathered: &mut G,
-) -> Result<(), Memory>
+fn cover_kept<G: Gather>(alloc: Global, kept: &StoredEntry, gathered: &mut G) -> Result<(), Memory>
     ensures gathers { OnOk result (Gathers (G.Covers gathered.old) (G.Covers gathered.new)
         (kept.now ∷ [])) }
 {

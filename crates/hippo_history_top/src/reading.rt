@@ -3,11 +3,11 @@ ghost use Rattle.std.specs.Prelude.{◌≡◌, ◌||◌, not, codes, map, is_som
 ghost use Rattle.clap.specs.Words.{first_of, rows_of, found_of};
 ghost use Rattle.hippo_program_args.specs.Arguments.{FindsMatches};
 ghost use Rattle.hippo_history_top.specs.declared.asking.View.TheVariants.{Digest};
-ghost use Rattle.hippo_history_top.specs.CommandLine.{showing_command_line, is_on, has_end, entry_fits, has_form, is_page, page_fits, users_fit, bound_fits, has_selection, digest_fits, options_fit, scope_of, is_text_format, format_fits, shown_form, acts_in, entries_in, page_end, page_to, roster_to, number_in, view_in, call_with, call_in_format, showing_call, asked_of};
+ghost use Rattle.hippo_history_top.specs.CommandLine.{showing_command_line, is_on, has_end, entry_fits, has_form, is_page, page_fits, users_fit, bound_fits, has_selection, digest_fits, options_fit, scope_of, is_text_format, format_fits, shown_form, acts_in, excerpt_view, page_end, page_to, roster_to, number_given, view_in, call_with, call_in_format, showing_call, asked_of};
 
 use crate::arguments::{ARGUMENTS, is_on};
 use crate::asking::{Acts, Call, Excerpt, Form, Page, Roster, Scope, View};
-use crate::bounds::{first_in, last_in, number_in, page_end};
+use crate::bounds::{first_in, last_in, number_given, page_end};
 use clap::ArgMatches;
 use hippo_program_args::{format_of, matches_in, text_of, texts_of};
 use hippo_report::Format;
@@ -169,7 +169,7 @@ fn acts_of(matches: &ArgMatches<'_>) -> Acts
 }
 
 fn excerpt_of(matches: &ArgMatches<'_>, format: Format, scope: Scope) -> Option<View>
-    ensures { result ≡ entries_in (rows_of (found_of matches.now)) format scope }
+    ensures { result ≡ excerpt_view (rows_of (found_of matches.now)) format scope }
 {
     let first = first_in(matches)?;
     let last = last_in(matches)?;
@@ -202,9 +202,9 @@ fn roster_of(matches: &ArgMatches<'_>, format: Format) -> Option<View>
 }
 
 fn digest_of(matches: &ArgMatches<'_>) -> Option<View>
-    ensures { result ≡ option_map Digest (number_in (codes "to") (rows_of (found_of matches.now))) }
+    ensures { result ≡ option_map Digest (number_given (codes "to") (rows_of (found_of matches.now))) }
 {
-    Some(View::Digest(number_in(matches, "to")?))
+    Some(View::Digest(number_given(matches, "to")?))
 }
 
 fn view_of(matches: &ArgMatches<'_>, format: Format, scope: Scope) -> Option<View>
@@ -229,11 +229,7 @@ fn call_with(alloc: Global, matches: &ArgMatches<'_>, view: View) -> Result<Call
 }
 
 // The view that is asked for, of a table or of all.
-fn view_in(
-    alloc: Global,
-    matches: &ArgMatches<'_>,
-    format: Format,
-) -> Result<Option<View>, Memory>
+fn view_in(alloc: Global, matches: &ArgMatches<'_>, format: Format) -> Result<Option<View>, Memory>
     ensures { IfOk result (λ view. view ≡ option_and_then
         (view_in (rows_of (found_of matches.now)) format)
         (scope_of (first_of (codes "table") (rows_of (found_of matches.now))))) }

@@ -62,7 +62,8 @@ fn append_column(
     out: &mut Txt,
 ) -> Result<(), Memory>
     ensures { OnOk result ((history : History) → BookRepresents policy.now.book.now history → out.new
-        ≡ out.old ++ column_line (dated_line policy.now.format policy.now.moments.now) (take policy.now.n history)
+        ≡ out.old ++ column_line (dated_line policy.now.format policy.now.moments.now)
+        (take policy.now.n history)
         group.now.purpose.now group.now.recipient.now group.now.schema.now place) }
 {
     let ruling = ruling_at(policy, group, place);
@@ -79,7 +80,8 @@ fn append_column(
 
 fn append_columns(policy: &Policy<'_>, group: &Group<'_>, out: &mut Txt) -> Result<(), Memory>
     ensures { OnOk result ((history : History) → BookRepresents policy.now.book.now history → out.new
-        ≡ out.old ++ columns_shown (dated_line policy.now.format policy.now.moments.now) (take policy.now.n history)
+        ≡ out.old ++ columns_shown (dated_line policy.now.format policy.now.moments.now)
+        (take policy.now.n history)
         group.now.purpose.now group.now.recipient.now group.now.schema.now) }
 {
     for place in 0..group.schema.columns.len() {
@@ -134,7 +136,8 @@ fn is_shown(policy: &Policy<'_>, group: &Group<'_>) -> bool
 
 fn append_table(policy: &Policy<'_>, group: &Group<'_>, out: &mut Txt) -> Result<(), Memory>
     ensures { OnOk result ((history : History) → BookRepresents policy.now.book.now history → out.new
-        ≡ out.old ++ table_shown (dated_line policy.now.format policy.now.moments.now) policy.now.scope.now (take policy.now.n history)
+        ≡ out.old ++ table_shown (dated_line policy.now.format policy.now.moments.now)
+        policy.now.scope.now (take policy.now.n history)
         group.now.purpose.now group.now.recipient.now group.now.schema.now) }
 {
     if is_shown(policy, group) {
@@ -153,7 +156,8 @@ fn append_table_at(
     out: &mut Txt,
 ) -> Result<(), Memory>
     ensures { OnOk result ((history : History) → BookRepresents policy.now.book.now history → out.new
-        ≡ out.old ++ option_map_or (λ named. table_shown (dated_line policy.now.format policy.now.moments.now) policy.now.scope.now
+        ≡ out.old ++ option_map_or (λ named. table_shown
+        (dated_line policy.now.format policy.now.moments.now) policy.now.scope.now
         (take policy.now.n history)
         purpose.now recipient.now named.1) (slice_get policy.now.catalog.now.names.tables place)
         []) }

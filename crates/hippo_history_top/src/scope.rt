@@ -103,9 +103,7 @@ fn is_counted(excerpt: &Excerpt, entry: &Entry) -> bool
     ensures { result ≡ (is_from excerpt.now.first entry.now && is_to excerpt.now.last entry.now
         && is_of excerpt.now.acts entry.now.act) }
 {
-    is_from(excerpt.first, entry)
-        && is_to(excerpt.last, entry)
-        && is_of(excerpt.acts, &entry.act)
+    is_from(excerpt.first, entry) && is_to(excerpt.last, entry) && is_of(excerpt.acts, &entry.act)
 }
 
 /// Whether an entry is asked for.

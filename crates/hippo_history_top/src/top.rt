@@ -56,7 +56,14 @@ fn write_rules<K: Sink>(
         (K.written sink.old) (K.written sink.new) (K.faults sink.old) (K.faults sink.new) }
 {
     let mut lines = Txt::new(alloc);
-    match append_rules(alloc, &state.catalog, &state.book, moments, page, &mut lines) {
+    match append_rules(
+        alloc,
+        &state.catalog,
+        &state.book,
+        moments,
+        page,
+        &mut lines,
+    ) {
         Ok(()) => write_lines(sink, lines.as_str()),
         Err(Memory) => Some(Ending::NoMemory),
     }

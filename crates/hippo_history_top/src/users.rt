@@ -1,8 +1,8 @@
 //! The authorizations in force, one line for each.
 ghost use Rattle.std.specs.Prelude.{◌≡◌, ◌++◌, [], ◌∷◌, filter, IfOk, OnOk};
 ghost use Rattle.hippo_model.specs.declared.entry.Act.TheVariants.{Authorize};
-ghost use Rattle.hippo_history_top.specs.Dating.{up_to};
-ghost use Rattle.hippo_history_top.specs.Granting.{is_left_by, grant_of, granted, grants_of, grants_shown};
+ghost use Rattle.hippo_history_top.specs.Dating.{entries_to};
+ghost use Rattle.hippo_history_top.specs.Granting.{is_left_by, grant_by, granted, grants_of, grants_shown};
 
 use crate::asking::Bound;
 use crate::gathering::Gather;
@@ -35,14 +35,14 @@ fn drop_grant(list: &mut Vec<Grant>, user: &Name, purpose: &Name, recipient: &Na
     list.retain(|grant| is_other(grant, user, purpose, recipient));
 }
 
-fn grant_of(
+fn grant_by(
     alloc: Global,
     entry: &Entry,
     user: &Name,
     purpose: &Name,
     recipient: &Name,
 ) -> Result<Grant, Memory>
-    ensures { IfOk result (λ grant. grant ≡ grant_of entry.now.seq entry.now.moment user.now
+    ensures { IfOk result (λ grant. grant ≡ grant_by entry.now.seq entry.now.moment user.now
         purpose.now recipient.now) }
 {
     let user = user.copy(alloc)?;
@@ -88,7 +88,7 @@ impl Grants {
                 recipient,
             } => {
                 drop_grant(&mut self.list, user, purpose, recipient);
-                let grant = grant_of(alloc, entry, user, purpose, recipient)?;
+                let grant = grant_by(alloc, entry, user, purpose, recipient)?;
                 self.list.push(grant)?;
                 Ok(())
             }
@@ -106,7 +106,7 @@ impl Grants {
 }
 
 impl Gather for Grants {
-    ghost Covers = { λ gathered read. gathered.list.items ≡ grants_of (up_to gathered.last read) };
+    ghost Covers = { λ gathered read. gathered.list.items ≡ grants_of (entries_to gathered.last read) };
 
     fn cover(&mut self, alloc: Global, entry: &Entry) -> Result<(), Memory> {
         if is_to(self.last, entry) {
