@@ -15,7 +15,7 @@ use Rattle.hippo_keeper.proofs.Results.{err_of, ok_of, well}
 use Rattle.hippo_replay.proofs.KeeperLemmas.{selected_entries-remaining, nothing_taken}
 use Rattle.hippo_replay.proofs.ReadingLemmas.{versions-append, none_by, some_by}
 use Rattle.hippo_replay.proofs.TakingInLemmas.{take_at_entry}
-use Rattle.hippo_history_top.specs.Gathering.{Gathers, GathersNext, IsGathering, GathersAll}
+use Rattle.hippo_history_top.specs.Gathering.{Gathers, reading_of, GathersNext, IsGathering, GathersAll}
 use Rattle.hippo_history_top.specs.Progress.{HasForms, IsReadUpTo}
 use Rattle.hippo_history_top.proofs.EntryLemmas.{one_entry, no_entry}
 use Rattle.hippo_history_top.proofs.KeptLemmas.{split, no_entries, last-both, last_above}
@@ -106,6 +106,12 @@ module _ (old new : History → Type 0) (max number number' : ℕ) (before after
       nothing = λ e. absurd cc;
       ended = λ e. absurd cc;
     }
+
+    -- either of them
+    pub GathersNext-read : {E : Type 0} (covered : Result (Unit {0}) E) (empty : Bool) → (IsTrue empty ↔ (piece ≡ [])) → OnOk covered (Gathers old new piece) → OnOk covered (number' ≡ last_number number piece)
+        → GathersNext old new (reading_of covered (not empty)) before after number number' ticks ticks'
+    GathersNext-read (Ok value) empty is gathers last = GathersNext-piece empty is gathers last
+    GathersNext-read (Err error) empty is gathers last = GathersNext-short
 
   -- a call on the keeper failed
   pub GathersNext-fault : (fault : Fault) → ReadsEntries is_any number max (Err fault) before after → ticks' ≡ ticks + 0

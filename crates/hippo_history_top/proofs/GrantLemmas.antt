@@ -1,20 +1,21 @@
 -- The authorizations in force, with one more entry.
 use Rattle.std.proofs.Common.{◌≡◌, ◌∙◌, ℕ, Bool, true, false, cond, not, List, [], ◌∷◌, ◌++◌, filter, refl, sym, ap, append_assoc}
-use Rattle.std.specs.Prelude.{◌||◌, is_some}
+use Rattle.std.specs.Prelude.{◌||◌}
 use Rattle.std.specs.List.{list_any}
+use Rattle.std.proofs.lemmas.Bool.{false≢true}
 use Rattle.std.proofs.lemmas.Grind.{list_any-append}
 use Rattle.std.proofs.lemmas.List.{append-nil}
 use Rattle.std.proofs.lemmas.List.Elements.{filter-append}
 use Rattle.hippo_values.specs.declared.moments.Moment.{Moment}
 use Rattle.hippo_values.specs.declared.names.Name.{Name}
 use Rattle.hippo_model.specs.declared.entry.Act.{Act}
-use Rattle.hippo_model.specs.declared.entry.Act.TheVariants.{Authorize}
+use Rattle.hippo_model.specs.declared.entry.Act.TheVariants.{Authorize, Deauthorize}
 use Rattle.hippo_model.specs.declared.entry.Entry.{Entry}
 use Rattle.hippo_model.specs.Terms.{History}
 use Rattle.hippo_history_formats.specs.declared.grants.Grant.{Grant}
 use Rattle.hippo_history_top.specs.declared.asking.Bound.{Bound}
 use Rattle.hippo_history_top.specs.Dating.{is_to, entries_to}
-use Rattle.hippo_history_top.specs.Granting.{is_about, grant_by, granted, grants_of, is_left_by}
+use Rattle.hippo_history_top.specs.Granting.{authorizes, deauthorizes, is_about, grant_by, granted, grants_of, is_left_by}
 
 module _ (entry : Entry) where
   abbrev is_left : Grant → Bool
@@ -49,6 +50,17 @@ all_left : (act : Act) → ((grant : Grant) → is_left_by act grant ≡ true) �
 all_left act leaves [] = refl
 all_left act leaves (grant ∷ grants) =
     ap (λ (b : Bool). cond b (grant ∷ filter (is_left_by act) grants) (filter (is_left_by act) grants)) (leaves grant) ∙ ap (λ (l : List Grant). grant ∷ l) (all_left act leaves grants)
+
+-- an act that is about nobody leaves all authorizations in force
+pub left_by_other : (act : Act) → authorizes act ≡ false → deauthorizes act ≡ false → (grants : List Grant) → grants ≡ filter (is_left_by act) grants
+left_by_other (Authorize user purpose recipient) one other grants = absurd (false≢true (sym one))
+left_by_other (Deauthorize user purpose recipient) one other grants = absurd (false≢true (sym other))
+left_by_other act one other grants = sym (all_left act (λ grant. refl) grants)
+
+-- an act that authorizes nobody gives no authorization
+pub granted_by_other : (number : ℕ) (moment : Moment) (act : Act) → authorizes act ≡ false → (grants : List Grant) → grants ≡ grants ++ granted number moment act []
+granted_by_other number moment (Authorize user purpose recipient) other grants = absurd (false≢true (sym other))
+granted_by_other number moment act other grants = sym (append-nil grants)
 
 -- an entry after the bound counts for nothing, and another one is taken in
 module _ (bound : Bound) (read : History) (entry : Entry) (old : List Grant) (so_far : old ≡ grants_of (entries_to bound read)) where

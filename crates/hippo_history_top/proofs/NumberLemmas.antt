@@ -1,8 +1,8 @@
 -- The number of an entry that a word writes, by what the parser of numbers answers.
-use Rattle.std.proofs.Common.{◌≡◌, ◌≢◌, ◌∙◌, ℕ, ◌<◌, ◌≤◌, ◌^◌, Bool, true, false, ◌&&◌, Option, Some, None, Result, Ok, Err, refl, sym, ap, subst}
+use Rattle.std.proofs.Common.{◌≡◌, ◌≢◌, ◌∙◌, ℕ, ◌<◌, ◌≤◌, ◌^◌, Bool, true, false, ◌&&◌, Option, Some, None, Result, Ok, refl, sym, ap, subst}
 use Rattle.std.specs.Prelude.{nat_le}
 use Rattle.std.specs.Bool.{then_some}
-use Rattle.std.specs.Str.Parse.{ParsesUnsigned, digits_value, without_leading_plus}
+use Rattle.std.specs.Str.Parse.{ParsesUnsigned, IsNumeral, digits_value, without_leading_plus}
 use Rattle.std.proofs.lemmas.Bool.{and_parts, le-leb, leb-true, false≢true, false_from_ne_true}
 use Rattle.clap.specs.ValueTests.{is_unsigned_in}
 use Rattle.clap.specs.Values.{IsUnsignedIn}
@@ -45,5 +45,5 @@ module _ (word : Txt) where
       listed one other = ap (λ (test : Bool). test && nat_le (value_of word) 4000000) one ∙ other
 
   -- the word is no number
-  pub number-unread : {E : Type 0} (error : E) → ParsesUnsigned {E} 64 10 word (Err error) → None ≡ entry_number word
-  number-unread error fails = unlisted (λ is. let parts = as_unsigned is in fails (parts.0, parts.1))
+  pub number-unread : (IsNumeral 10 (without_leading_plus word) × (value_of word < 2 ^ 64) → ⊥) → None ≡ entry_number word
+  number-unread fails = unlisted (λ is. let parts = as_unsigned is in fails (parts.0, parts.1))

@@ -1,9 +1,10 @@
 -- The results of gathering something from the stored entries, one piece after another.
-use Rattle.std.specs.Prelude.{◌≡◌, ℕ, ◌^◌, ◌<◌, Bool, true, false, [], ◌++◌, Result, Ok, OnOk}
+use Rattle.std.specs.Prelude.{◌≡◌, ℕ, ◌^◌, ◌<◌, Bool, true, false, [], ◌++◌, Result, Ok, Err, OnOk}
 use Rattle.hippo_model.specs.Terms.{History}
 use Rattle.hippo_keeper.specs.Keeping.{Store, last_number, KeeperState}
 use Rattle.hippo_keeper.specs.Selecting.{HandsOver}
 use Rattle.hippo_keeper.specs.declared.faults.KeeperFault.{KeeperFault}
+use Rattle.hippo_keeper.specs.declared.faults.KeeperFault.TheVariants.{Memory}
 use Rattle.hippo_history_top.specs.Progress.{HasForms, IsReadUpTo}
 
 -- something goes on over the entries with these stored forms: if it covered some entries before, it
@@ -11,6 +12,11 @@ use Rattle.hippo_history_top.specs.Progress.{HasForms, IsReadUpTo}
 abbrev pub Gathers : (History → Type 0) → (History → Type 0) → Store → Type 0
 Gathers old new store =
     (read entries : History) → HasForms store entries → old read → new (read ++ entries)
+
+-- the result of reading a piece, by whether its entries were covered
+abbrev pub reading_of : {E : Type 0} → Result (Unit {0}) E → Bool → Result Bool KeeperFault
+reading_of (Ok covered) any = Ok any
+reading_of (Err error) any = Err Memory
 
 -- a piece, the first entries of the rest, is read and covered
 pub record GathersNext (old new : History → Type 0) (result : Result Bool KeeperFault)

@@ -1,14 +1,13 @@
 -- Which authorizations are in force: those that no later entry on the same user, purpose and
 -- recipient replaces.
-use Rattle.std.specs.Prelude.{ℕ, Bool, not, List, [], ◌∷◌, ◌++◌, flat_map, is_some, if◌then◌else◌}
+use Rattle.std.specs.Prelude.{ℕ, Bool, true, false, not, ◌&&◌, List, [], ◌∷◌, ◌++◌, flat_map, if◌then◌else◌, bytes_eq}
 use Rattle.std.specs.List.{list_any}
 use Rattle.hippo_values.specs.Texts.{Txt}
 use Rattle.hippo_values.specs.declared.moments.Moment.{Moment}
 use Rattle.hippo_values.specs.declared.names.Name.{Name}
 use Rattle.hippo_model.specs.declared.entry.Act.{Act}
-use Rattle.hippo_model.specs.declared.entry.Act.TheVariants.{Authorize}
+use Rattle.hippo_model.specs.declared.entry.Act.TheVariants.{Authorize, Deauthorize}
 use Rattle.hippo_model.specs.declared.entry.Entry.{Entry}
-use Rattle.hippo_model.specs.Rules.{authorization_in}
 use Rattle.hippo_model.specs.Terms.{History}
 use Rattle.hippo_report.specs.declared.format.Format.{Format}
 use Rattle.hippo_history_formats.specs.declared.grants.Grant.{Grant}
@@ -16,7 +15,11 @@ use Rattle.hippo_history_formats.specs.Formats.{grant_line}
 
 -- whether an act authorizes or deauthorizes a user for a purpose and a recipient
 abbrev pub is_about : Name → Name → Name → Act → Bool
-is_about user purpose recipient act = is_some (authorization_in user purpose recipient 0 act)
+is_about user purpose recipient (Authorize u p r) =
+    bytes_eq u user && bytes_eq p purpose && bytes_eq r recipient
+is_about user purpose recipient (Deauthorize u p r) =
+    bytes_eq u user && bytes_eq p purpose && bytes_eq r recipient
+is_about user purpose recipient act = false
 
 abbrev pub grant_by : ℕ → Moment → Name → Name → Name → Grant
 grant_by number moment user purpose recipient =
@@ -47,6 +50,15 @@ grant_shown format grant =
 
 abbrev pub grants_shown : Format → List Grant → Txt
 grants_shown format grants = flat_map (grant_shown format) grants
+
+-- whether an act authorizes somebody, or deauthorizes somebody
+abbrev pub authorizes : Act → Bool
+authorizes (Authorize user purpose recipient) = true
+authorizes act = false
+
+abbrev pub deauthorizes : Act → Bool
+deauthorizes (Deauthorize user purpose recipient) = true
+deauthorizes act = false
 
 -- whether an act leaves an authorization in force
 abbrev pub is_left_by : Act → Grant → Bool

@@ -24,7 +24,7 @@ fn is_number(number: u64) -> bool
 fn entry_number(word: &str) -> Option<u64>
     ensures { result ≡ entry_number word.now }
 {
-    match word.parse::<u64>() {
+    match u64::from_str_radix(word, 10) {
         Ok(number) => is_number(number).then_some(number),
         Err(_) => None,
     }

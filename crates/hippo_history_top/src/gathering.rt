@@ -3,7 +3,7 @@ ghost use Rattle.std.specs.Prelude.{◌≡◌, true, [], ◌∷◌, ◌++◌, On
 ghost use Rattle.hippo_model.specs.Terms.{History};
 ghost use Rattle.hippo_keeper.specs.Keeping.{last_number, IsReady};
 ghost use Rattle.hippo_history_top.specs.Progress.{IsReadable};
-ghost use Rattle.hippo_history_top.specs.Gathering.{Gathers, GathersNext, GathersAll};
+ghost use Rattle.hippo_history_top.specs.Gathering.{Gathers, reading_of, GathersNext, GathersAll};
 
 use crate::showing::PIECE;
 use hippo_entry::decode;
@@ -60,6 +60,16 @@ fn cover_piece<G: Gather>(
     Ok(())
 }
 
+// The result of reading a piece, by whether its entries were covered.
+fn reading_of(covered: Result<(), Memory>, any: bool) -> Result<bool, KeeperFault>
+    ensures { result ≡ reading_of covered any }
+{
+    match covered {
+        Ok(()) => Ok(any),
+        Err(Memory) => Err(KeeperFault::Memory),
+    }
+}
+
 // Reads the next piece and goes on over its entries. Returns whether there were any.
 fn gather_next<G: Gather, P: Keeper, L: Ledger>(
     alloc: Global,
@@ -77,10 +87,7 @@ fn gather_next<G: Gather, P: Keeper, L: Ledger>(
             let any = !piece.is_empty();
             let covered = cover_piece(alloc, piece.as_slice(), number, gathered);
             drop(piece);
-            match covered {
-                Ok(()) => Ok(any),
-                Err(Memory) => Err(KeeperFault::Memory),
-            }
+            reading_of(covered, any)
         }
         Err(fault) => Err(fault),
     }

@@ -1,5 +1,6 @@
 //! The moments of entries, by their numbers.
-ghost use Rattle.std.specs.Prelude.{◌≡◌, [], cond, int_le};
+ghost use Rattle.std.specs.Prelude.{◌≡◌, [], ◌∷◌, ◌++◌, cond, int_le, OnOk};
+ghost use Rattle.hippo_model.specs.Terms.{History};
 ghost use Rattle.hippo_history_top.specs.declared.asking.Bound.TheVariants.{At};
 ghost use Rattle.hippo_history_top.specs.Dating.{moments_of, moment_at, count_to};
 
@@ -25,6 +26,14 @@ impl Moments {
         }
     }
 
+    // Goes on over the next entry.
+    fn add(&mut self, entry: &Entry) -> Result<(), Memory>
+        ensures covers { OnOk result ((read : History) → self.old.list ≡ moments_of read
+            → self.new.list ≡ moments_of (read ++ entry.now ∷ [])) }
+    {
+        self.list.push(entry.moment)
+    }
+
     pub(crate) fn as_slice(&self) -> &[Moment]
         ensures { result.now ≡ self.now.list }
     {
@@ -35,9 +44,8 @@ impl Moments {
 impl Gather for Moments {
     ghost Covers = { λ gathered read. gathered.list ≡ moments_of read };
 
-    #[tactic(auto, using(crate::proofs::MomentLemmas::one_moment_more))]
     fn cover(&mut self, _alloc: Global, entry: &Entry) -> Result<(), Memory> {
-        self.list.push(entry.moment)
+        self.add(entry)
     }
 }
 

@@ -1,8 +1,9 @@
 //! The authorizations in force, one line for each.
-ghost use Rattle.std.specs.Prelude.{◌≡◌, ◌++◌, [], ◌∷◌, filter, IfOk, OnOk};
-ghost use Rattle.hippo_model.specs.declared.entry.Act.TheVariants.{Authorize};
+ghost use Rattle.std.specs.Prelude.{◌≡◌, ◌++◌, [], ◌∷◌, false, filter, MatchOption, IfOk, OnOk};
+ghost use Rattle.hippo_model.specs.declared.entry.Act.TheVariants.{Authorize, Deauthorize};
+ghost use Rattle.hippo_model.specs.Terms.{History};
 ghost use Rattle.hippo_history_top.specs.Dating.{entries_to};
-ghost use Rattle.hippo_history_top.specs.Granting.{is_left_by, grant_by, granted, grants_of, grants_shown};
+ghost use Rattle.hippo_history_top.specs.Granting.{authorizes, deauthorizes, is_left_by, grant_by, granted, grants_of, grants_shown};
 
 use crate::asking::Bound;
 use crate::gathering::Gather;
@@ -20,40 +21,129 @@ pub(crate) struct Grants {
     list: Vec<Grant>,
 }
 
-// Whether an authorization is another user's, or for another purpose or recipient.
-fn is_other(grant: &Grant, user: &Name, purpose: &Name, recipient: &Name) -> bool
-    ensures { result ≡ is_left_by (Authorize user.now purpose.now recipient.now) grant.now }
+// Who may ask for which purpose and recipient.
+#[derive(Clone, Copy)]
+struct Asker<'a> {
+    user: &'a Name,
+    purpose: &'a Name,
+    recipient: &'a Name,
+}
+
+// Who is authorized by an act, if anybody is.
+fn authorized_in<'a>(act: &'a Act) -> Option<Asker<'a>>
+    ensures { MatchOption result (authorizes act.now ≡ false) (λ asker. act.now
+        ≡ Authorize asker.user.now asker.purpose.now asker.recipient.now) }
 {
-    !(*user == grant.user && *purpose == grant.purpose && *recipient == grant.recipient)
+    let Act::Authorize {
+        user,
+        purpose,
+        recipient,
+    } = act
+    else {
+        return None;
+    };
+    Some(Asker {
+        user,
+        purpose,
+        recipient,
+    })
+}
+
+// Who is deauthorized by an act, if anybody is.
+fn deauthorized_in<'a>(act: &'a Act) -> Option<Asker<'a>>
+    ensures { MatchOption result (deauthorizes act.now ≡ false) (λ asker. act.now
+        ≡ Deauthorize asker.user.now asker.purpose.now asker.recipient.now) }
+{
+    let Act::Deauthorize {
+        user,
+        purpose,
+        recipient,
+    } = act
+    else {
+        return None;
+    };
+    Some(Asker {
+        user,
+        purpose,
+        recipient,
+    })
+}
+
+// Whether an authorization is another user's, or for another purpose or recipient.
+fn is_other(grant: &Grant, asker: &Asker<'_>) -> bool
+    ensures { result ≡ is_left_by (Authorize asker.now.user.now asker.now.purpose.now
+        asker.now.recipient.now) grant.now }
+{
+    !(*asker.user == grant.user
+        && *asker.purpose == grant.purpose
+        && *asker.recipient == grant.recipient)
 }
 
 // Drops the authorization of a user for a purpose and a recipient, if there is one.
-fn drop_grant(list: &mut Vec<Grant>, user: &Name, purpose: &Name, recipient: &Name)
-    ensures { list.new.items
-        ≡ filter (is_left_by (Authorize user.now purpose.now recipient.now)) list.old.items }
+fn drop_grant(list: &mut Vec<Grant>, asker: &Asker<'_>)
+    ensures { list.new.items ≡ filter (is_left_by (Authorize asker.now.user.now
+        asker.now.purpose.now asker.now.recipient.now)) list.old.items }
 {
-    list.retain(|grant| is_other(grant, user, purpose, recipient));
+    list.retain(|grant| is_other(grant, asker));
 }
 
-fn grant_by(
-    alloc: Global,
-    entry: &Entry,
-    user: &Name,
-    purpose: &Name,
-    recipient: &Name,
-) -> Result<Grant, Memory>
-    ensures { IfOk result (λ grant. grant ≡ grant_by entry.now.seq entry.now.moment user.now
-        purpose.now recipient.now) }
+// Drops the authorization that an act takes back. The act gives none.
+fn drop_deauthorized(list: &mut Vec<Grant>, act: &Act)
+    requires other { authorizes act.now ≡ false }
+    ensures { list.new.items ≡ filter (is_left_by act.now) list.old.items }
 {
-    let user = user.copy(alloc)?;
-    let purpose = purpose.copy(alloc)?;
+    match deauthorized_in(act) {
+        None => {}
+        Some(asker) => drop_grant(list, &asker),
+    }
+}
+
+fn grant_by(alloc: Global, entry: &Entry, asker: &Asker<'_>) -> Result<Grant, Memory>
+    ensures { IfOk result (λ grant. grant ≡ grant_by entry.now.seq entry.now.moment
+        asker.now.user.now asker.now.purpose.now asker.now.recipient.now) }
+{
+    let user = asker.user.copy(alloc)?;
+    let purpose = asker.purpose.copy(alloc)?;
+    let recipient = asker.recipient.copy(alloc)?;
     Ok(Grant {
         entry: entry.seq,
         moment: entry.moment,
         user,
         purpose,
-        recipient: recipient.copy(alloc)?,
+        recipient,
     })
+}
+
+// Adds the authorization that an entry gives, in the place of an earlier one.
+fn replace_grant(
+    alloc: Global,
+    entry: &Entry,
+    asker: &Asker<'_>,
+    list: &mut Vec<Grant>,
+) -> Result<(), Memory>
+    ensures { OnOk result (list.new.items ≡ filter (is_left_by (Authorize asker.now.user.now
+        asker.now.purpose.now asker.now.recipient.now)) list.old.items
+        ++ grant_by entry.now.seq entry.now.moment asker.now.user.now asker.now.purpose.now
+        asker.now.recipient.now ∷ []) }
+{
+    let grant = grant_by(alloc, entry, asker)?;
+    drop_grant(list, asker);
+    list.push(grant)?;
+    Ok(())
+}
+
+// Takes in an entry that is not after the bound.
+fn take_in(alloc: Global, entry: &Entry, list: &mut Vec<Grant>) -> Result<(), Memory>
+    ensures { OnOk result (list.new.items ≡ filter (is_left_by entry.now.act) list.old.items
+        ++ granted entry.now.seq entry.now.moment entry.now.act []) }
+{
+    match authorized_in(&entry.act) {
+        None => {
+            drop_deauthorized(list, &entry.act);
+            Ok(())
+        }
+        Some(asker) => replace_grant(alloc, entry, &asker, list),
+    }
 }
 
 impl Grants {
@@ -74,46 +164,27 @@ impl Grants {
         self.list.as_slice()
     }
 
-    // Takes in an entry before the bound.
-    fn take_in(&mut self, alloc: Global, entry: &Entry) -> Result<(), Memory>
-        ensures last { self.new.last ≡ self.old.last }
-        ensures list { OnOk result (self.new.list.items
-            ≡ filter (is_left_by entry.now.act) self.old.list.items
-            ++ granted entry.now.seq entry.now.moment entry.now.act []) }
+    // Goes on over the next entry.
+    fn add(&mut self, alloc: Global, entry: &Entry) -> Result<(), Memory>
+        ensures covers { OnOk result ((read : History)
+            → self.old.list.items ≡ grants_of (entries_to self.old.last read)
+            → self.new.list.items ≡ grants_of (entries_to self.new.last
+            (read ++ entry.now ∷ []))) }
     {
-        match &entry.act {
-            Act::Authorize {
-                user,
-                purpose,
-                recipient,
-            } => {
-                drop_grant(&mut self.list, user, purpose, recipient);
-                let grant = grant_by(alloc, entry, user, purpose, recipient)?;
-                self.list.push(grant)?;
-                Ok(())
-            }
-            Act::Deauthorize {
-                user,
-                purpose,
-                recipient,
-            } => {
-                drop_grant(&mut self.list, user, purpose, recipient);
-                Ok(())
-            }
-            _ => Ok(()),
+        if is_to(self.last, entry) {
+            take_in(alloc, entry, &mut self.list)
+        } else {
+            Ok(())
         }
     }
 }
 
 impl Gather for Grants {
-    ghost Covers = { λ gathered read. gathered.list.items ≡ grants_of (entries_to gathered.last read) };
+    ghost Covers = { λ gathered read. gathered.list.items
+        ≡ grants_of (entries_to gathered.last read) };
 
     fn cover(&mut self, alloc: Global, entry: &Entry) -> Result<(), Memory> {
-        if is_to(self.last, entry) {
-            self.take_in(alloc, entry)
-        } else {
-            Ok(())
-        }
+        self.add(alloc, entry)
     }
 }
 
