@@ -10,7 +10,7 @@ use Rattle.hippo_model.specs.declared.schema.Column.{Column}
 use Rattle.hippo_model.specs.declared.schema.ColumnKind.TheVariants.{Text as TextColumn}
 use Rattle.hippo_model.specs.declared.schema.Schema.{Schema}
 use Rattle.hippo_model.specs.Rules.{allowed, revoked}
-use Rattle.hippo_history_formats.specs.Formats.{json_line, csv_line, entry_data, entry_fields, rule_data, rule_fields}
+use Rattle.hippo_history_formats.specs.Formats.{json_line, csv_line, entry_data, entry_fields, rule_data, rule_fields, grant_data, grant_fields, grant_words}
 
 abbrev column : Txt → Column
 column name = record { name = name; kind = TextColumn; not_null = false }
@@ -52,22 +52,37 @@ a_question_as_a_record : csv_line (entry_fields None 11 morning question)
 unfolding digits escaped fields_text is_blank
 a_question_as_a_record = refl
 
-a_rule_with_item_and_days : json_line (rule_data (codes "treatment") (codes "nurse") (codes "patient") (codes "phone") (Some (allowed 7 (Some (codes "contact")) (Some 365))) (Some true))
-    ≡ codes "{\"column\":\"phone\",\"days\":365,\"item\":\"contact\",\"opt\":\"in\",\"purpose\":\"treatment\",\"recipient\":\"nurse\",\"rule\":7,\"ruling\":\"allowed\",\"table\":\"patient\"}\n"
+a_rule_with_item_and_days : json_line (rule_data (codes "treatment") (codes "nurse") (codes "patient") (codes "phone") (Some (allowed 7 (Some (codes "contact")) (Some 365))) (Some morning) (Some true))
+    ≡ codes "{\"column\":\"phone\",\"days\":365,\"item\":\"contact\",\"moment\":\"2024-03-04T07:00:00Z\",\"opt\":\"in\",\"purpose\":\"treatment\",\"recipient\":\"nurse\",\"rule\":7,\"ruling\":\"allowed\",\"table\":\"patient\"}\n"
 unfolding digits serde_json_on_literals
 a_rule_with_item_and_days = refl
 
-a_column_that_no_rule_names : json_line (rule_data (codes "treatment") (codes "nurse") (codes "patient") (codes "name") None None)
-    ≡ codes "{\"column\":\"name\",\"days\":null,\"item\":null,\"opt\":null,\"purpose\":\"treatment\",\"recipient\":\"nurse\",\"rule\":0,\"ruling\":\"unnamed\",\"table\":\"patient\"}\n"
+a_column_that_no_rule_names : json_line (rule_data (codes "treatment") (codes "nurse") (codes "patient") (codes "name") None None None)
+    ≡ codes "{\"column\":\"name\",\"days\":null,\"item\":null,\"moment\":null,\"opt\":null,\"purpose\":\"treatment\",\"recipient\":\"nurse\",\"rule\":0,\"ruling\":\"unnamed\",\"table\":\"patient\"}\n"
 unfolding digits serde_json_on_literals
 a_column_that_no_rule_names = refl
 
-silence_is_no_refusal : csv_line (rule_fields (codes "billing") (codes "clerk") (codes "patient") (codes "phone") (Some (allowed 11 (Some (codes "contact")) None)) (Some false))
-    ≡ codes "11,allowed,billing,clerk,patient,phone,contact,out,\n"
+silence_is_no_refusal : csv_line (rule_fields (codes "billing") (codes "clerk") (codes "patient") (codes "phone") (Some (allowed 11 (Some (codes "contact")) None)) (Some morning) (Some false))
+    ≡ codes "11,2024-03-04T07:00:00Z,allowed,billing,clerk,patient,phone,contact,out,\n"
 unfolding digits escaped fields_text is_blank
 silence_is_no_refusal = refl
 
-a_column_that_is_revoked : csv_line (rule_fields (codes "treatment") (codes "nurse") (codes "patient") (codes "phone") (Some (revoked 12)) None)
-    ≡ codes "12,revoked,treatment,nurse,patient,phone,,,\n"
+a_column_that_is_revoked : csv_line (rule_fields (codes "treatment") (codes "nurse") (codes "patient") (codes "phone") (Some (revoked 12)) (Some morning) None)
+    ≡ codes "12,2024-03-04T07:00:00Z,revoked,treatment,nurse,patient,phone,,,\n"
 unfolding digits escaped fields_text is_blank
 a_column_that_is_revoked = refl
+
+an_authorization_as_a_line : grant_words 7 morning (codes "ann") (codes "treatment") (codes "nurse")
+    ≡ codes "7 2024-03-04T07:00:00Z ann treatment nurse\n"
+unfolding digits
+an_authorization_as_a_line = refl
+
+an_authorization_as_an_object : json_line (grant_data 7 morning (codes "ann") (codes "treatment") (codes "nurse"))
+    ≡ codes "{\"entry\":7,\"moment\":\"2024-03-04T07:00:00Z\",\"purpose\":\"treatment\",\"recipient\":\"nurse\",\"user\":\"ann\"}\n"
+unfolding digits serde_json_on_literals
+an_authorization_as_an_object = refl
+
+an_authorization_as_a_record : csv_line (grant_fields 7 morning (codes "ann") (codes "treatment") (codes "nurse"))
+    ≡ codes "7,2024-03-04T07:00:00Z,ann,treatment,nurse\n"
+unfolding digits escaped fields_text is_blank
+an_authorization_as_a_record = refl

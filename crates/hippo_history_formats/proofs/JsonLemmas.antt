@@ -21,6 +21,6 @@ has_float-text : (text : Option Txt) → has_float (text_data text) ≡ false
 has_float-text None = refl
 has_float-text (Some text) = refl
 
-pub rule_has_no_float : (purpose recipient table : Name) (column : Txt) (rule : Option Rule) (opt_in : Option Bool) → has_float (rule_data purpose recipient table column rule opt_in) ≡ false
-rule_has_no_float purpose recipient table column rule opt_in =
-    rw (has_float-number (rule_days rule), has_float-text (rule_item rule), has_float-text (option_map opt_word opt_in)) refl
+pub rule_has_no_float : (purpose recipient table : Name) (column : Txt) (rule : Option Rule) (moment : Option Txt) (opt_in : Option Bool) → has_float (rule_data purpose recipient table column rule moment opt_in) ≡ false
+rule_has_no_float purpose recipient table column rule moment opt_in =
+    rw (has_float-number (rule_days rule), has_float-text (rule_item rule), has_float-text moment, has_float-text (option_map opt_word opt_in)) refl

@@ -6,6 +6,7 @@ use Rattle.serde_json.specs.Data.{Data, null, number, unsigned, string, object, 
 use Rattle.serde_json.specs.Written.{compact_text}
 use Rattle.hippo_values_text.specs.Dates.{moment_text}
 use Rattle.hippo_values.specs.Texts.{Txt}
+use Rattle.hippo_values.specs.declared.moments.Moment.{Moment}
 use Rattle.hippo_values.specs.declared.names.Name.{Name}
 use Rattle.hippo_model.specs.declared.entry.Act.{Act}
 use Rattle.hippo_model.specs.declared.entry.Act.TheVariants.{Asked}
@@ -93,24 +94,27 @@ number_data days = option_map_or (λ days. number (unsigned days)) days null
 abbrev pub text_data : Option Txt → Data
 text_data text = option_map_or string text null
 
--- the rule of a column for a purpose and a recipient, and how silence on its item is read
-abbrev pub rule_data : Name → Name → Name → Txt → Option Rule → Option Bool → Data
-rule_data purpose recipient table column rule opt_in =
+-- the rule of a column for a purpose and a recipient, the moment of its entry, and how silence on
+-- its item is read
+abbrev pub rule_data : Name → Name → Name → Txt → Option Rule → Option Txt → Option Bool → Data
+rule_data purpose recipient table column rule moment opt_in =
     object (member (codes "column") (string column)
     (member (codes "days") (number_data (rule_days rule))
     (member (codes "item") (text_data (rule_item rule))
+    (member (codes "moment") (text_data moment)
     (member (codes "opt") (text_data (option_map opt_word opt_in))
     (member (codes "purpose") (string purpose)
     (member (codes "recipient") (string recipient)
     (member (codes "rule") (number (unsigned (rule_number rule)))
     (member (codes "ruling") (string (ruling_word rule))
-    (member (codes "table") (string table) no_members)))))))))
+    (member (codes "table") (string table) no_members))))))))))
 
--- nine fields, each empty if there is nothing to show
-abbrev pub rule_fields : Name → Name → Name → Txt → Option Rule → Option Bool → List Txt
-rule_fields purpose recipient table column rule opt_in =
-    decimal (rule_number rule) ∷ ruling_word rule ∷ purpose ∷ recipient ∷ table ∷ column
-    ∷ unwrap_or (rule_item rule) [] ∷ unwrap_or (option_map opt_word opt_in) []
+-- ten fields, each empty if there is nothing to show
+abbrev pub rule_fields : Name → Name → Name → Txt → Option Rule → Option Txt → Option Bool
+    → List Txt
+rule_fields purpose recipient table column rule moment opt_in =
+    decimal (rule_number rule) ∷ unwrap_or moment [] ∷ ruling_word rule ∷ purpose ∷ recipient
+    ∷ table ∷ column ∷ unwrap_or (rule_item rule) [] ∷ unwrap_or (option_map opt_word opt_in) []
     ∷ option_map_or decimal (rule_days rule) [] ∷ []
 
 -- a rule: the number of its entry, and its statement for these columns; 0 if there is no rule
@@ -128,12 +132,42 @@ silence_text None = []
 silence_text (Some true) = codes " (OPT IN)"
 silence_text (Some false) = codes " (OPT OUT)"
 
--- the rule of a column as a line
-abbrev pub rule_line : Format → Name → Name → Schema → Place → Option Rule → Option Bool → Txt
-rule_line formats.Text purpose recipient schema place rule opt_in =
+-- the rule of a column as a line, with the moment of its entry
+abbrev pub rule_line : Format → Name → Name → Schema → Place → Option Rule → Option Moment
+    → Option Bool → Txt
+rule_line formats.Text purpose recipient schema place rule moment opt_in =
     ruling_text schema.columns purpose recipient schema.name (place ∷ []) rule
     ++ (silence_text opt_in ++ codes "\n")
-rule_line formats.Json purpose recipient schema place rule opt_in =
-    json_line (rule_data purpose recipient schema.name (name_at schema.columns place) rule opt_in)
-rule_line formats.Csv purpose recipient schema place rule opt_in =
-    csv_line (rule_fields purpose recipient schema.name (name_at schema.columns place) rule opt_in)
+rule_line formats.Json purpose recipient schema place rule moment opt_in =
+    json_line (rule_data purpose recipient schema.name (name_at schema.columns place) rule
+    (option_map moment_text moment) opt_in)
+rule_line formats.Csv purpose recipient schema place rule moment opt_in =
+    csv_line (rule_fields purpose recipient schema.name (name_at schema.columns place) rule
+    (option_map moment_text moment) opt_in)
+
+-- an authorization: the number and the moment of its entry, and who may ask for which purpose and
+-- recipient; as an object, as five fields, and as a line
+abbrev pub grant_data : ℕ → Txt → Name → Name → Name → Data
+grant_data entry moment user purpose recipient =
+    object (member (codes "entry") (number (unsigned entry))
+    (member (codes "moment") (string moment)
+    (member (codes "purpose") (string purpose)
+    (member (codes "recipient") (string recipient)
+    (member (codes "user") (string user) no_members)))))
+
+abbrev pub grant_fields : ℕ → Txt → Name → Name → Name → List Txt
+grant_fields entry moment user purpose recipient =
+    decimal entry ∷ moment ∷ user ∷ purpose ∷ recipient ∷ []
+
+abbrev pub grant_words : ℕ → Txt → Name → Name → Name → Txt
+grant_words entry moment user purpose recipient =
+    decimal entry ++ (codes " " ++ (moment ++ (codes " " ++ (user
+    ++ (codes " " ++ (purpose ++ (codes " " ++ (recipient ++ codes "\n"))))))))
+
+abbrev pub grant_line : Format → ℕ → Moment → Name → Name → Name → Txt
+grant_line formats.Text entry moment user purpose recipient =
+    grant_words entry (moment_text moment) user purpose recipient
+grant_line formats.Json entry moment user purpose recipient =
+    json_line (grant_data entry (moment_text moment) user purpose recipient)
+grant_line formats.Csv entry moment user purpose recipient =
+    csv_line (grant_fields entry (moment_text moment) user purpose recipient)

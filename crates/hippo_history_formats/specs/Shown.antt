@@ -37,13 +37,15 @@ pub record Shows (schema : Option Schema) (entry : ℕ) (moment : Txt) (act : Ac
   pub object : shown_data shown ≡ entry_data schema entry moment act
   pub fields : shown_fields shown ≡ entry_fields schema entry moment act
 
--- the rule of a column
-abbrev pub column_data : ColumnRule → Data
-column_data rule =
+-- the rule of a column, with the moment of its entry
+abbrev pub column_data : ColumnRule → Option Txt → Data
+column_data rule moment =
     rule_data rule.purpose.now rule.recipient.now rule.schema.now.name
-    (name_at rule.schema.now.columns rule.place) (ruling_of rule.ruling) (opt_in_of rule.ruling)
+    (name_at rule.schema.now.columns rule.place) (ruling_of rule.ruling) moment
+    (opt_in_of rule.ruling)
 
-abbrev pub column_fields : ColumnRule → List Txt
-column_fields rule =
+abbrev pub column_fields : ColumnRule → Option Txt → List Txt
+column_fields rule moment =
     rule_fields rule.purpose.now rule.recipient.now rule.schema.now.name
-    (name_at rule.schema.now.columns rule.place) (ruling_of rule.ruling) (opt_in_of rule.ruling)
+    (name_at rule.schema.now.columns rule.place) (ruling_of rule.ruling) moment
+    (opt_in_of rule.ruling)

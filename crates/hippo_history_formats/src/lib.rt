@@ -1,7 +1,8 @@
-//! An entry of a history, and the rule of a column, as a line of text, of JSON (RFC 8259) or of CSV
-//! (RFC 4180).
+//! An entry of a history, the rule of a column, and an authorization, as a line of text, of JSON
+//! (RFC 8259) or of CSV (RFC 4180).
 #![tactic(auto)]
 
+mod grants;
 mod members;
 mod objects;
 mod questions;
@@ -10,7 +11,8 @@ mod ruled;
 mod rulings;
 mod told;
 
+pub use grants::{Grant, append_grant};
 pub use questions::{Question, question_of};
 pub use ruled::append_rule_line;
-pub use rulings::ColumnRule;
+pub use rulings::{ColumnRule, ruling_number};
 pub use told::{append_entry, append_moment};

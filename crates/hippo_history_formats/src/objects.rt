@@ -1,16 +1,19 @@
 //! JSON objects (RFC 8259).
-ghost use Rattle.std.specs.Prelude.{◌≡◌, option_map, IfOk, OnOk, string_bytes, codes};
+ghost use Rattle.std.specs.Prelude.{◌≡◌, option_copied, option_map, IfOk, OnOk, string_bytes, codes};
 ghost use Rattle.serde_json.specs.Data.{put, string, number, unsigned};
 ghost use Rattle.serde_json.specs.View.{view, members_view};
 ghost use Rattle.serde_json.specs.Written.{compact_text};
 ghost use Rattle.hippo_policy.specs.Rulings.{ruling_of, opt_in_of};
 ghost use Rattle.hippo_history_statements.specs.Telling.{name_at};
-ghost use Rattle.hippo_history_formats.specs.Formats.{statement_data, question_data, rule_number, ruling_word, rule_item, rule_days, opt_word, number_data, text_data};
+ghost use Rattle.hippo_history_formats.specs.Formats.{statement_data, question_data, rule_number, ruling_word, rule_item, rule_days, opt_word, number_data, text_data, grant_data};
 ghost use Rattle.hippo_history_formats.specs.Shown.{shown_data, column_data};
 
+use crate::grants::Grant;
 use crate::members::{put_days, put_number, put_text, put_text_or_null};
 use crate::questions::Question;
-use crate::rulings::{ColumnRule, column_name, days_of, item_of, number_of, opt_of, ruling_word};
+use crate::rulings::{
+    ColumnRule, column_name, days_of, item_of, opt_of, ruling_number, ruling_word,
+};
 use crate::told::{Shown, Told};
 use hippo_model::RuleAt;
 use serde_json::{Map, Value};
@@ -128,42 +131,77 @@ fn put_number_and_word(
         (put (codes "rule") (number (unsigned (rule_number (ruling_of ruling.now))))
         (members_view members.old.entries))) }
 {
-    put_number(alloc, members, "rule", number_of(ruling))?;
+    put_number(alloc, members, "rule", ruling_number(ruling))?;
     put_text(alloc, members, "ruling", ruling_word(ruling))
 }
 
-// Adds for how many days a rule allows, its item, and how that item reads silence.
+// Adds for how many days a rule allows, its item, the moment of its entry, and how the item reads
+// silence.
 fn put_conditions(
     alloc: Global,
     members: &mut Map<String, Value>,
     ruling: &RuleAt<'_>,
+    moment: Option<&str>,
 ) -> Result<(), AllocError>
     ensures { OnOk result (members_view members.new.entries
         ≡ put (codes "opt") (text_data (option_map opt_word (opt_in_of ruling.now)))
+        (put (codes "moment") (text_data (option_copied moment.entry))
         (put (codes "item") (text_data (rule_item (ruling_of ruling.now)))
         (put (codes "days") (number_data (rule_days (ruling_of ruling.now)))
-        (members_view members.old.entries)))) }
+        (members_view members.old.entries))))) }
 {
     put_days(alloc, members, "days", days_of(ruling))?;
     put_text_or_null(alloc, members, "item", item_of(ruling))?;
+    put_text_or_null(alloc, members, "moment", moment)?;
     put_text_or_null(alloc, members, "opt", opt_of(ruling))
 }
 
-fn rule_data(alloc: Global, rule: &ColumnRule<'_>) -> Result<Value, AllocError>
-    ensures { IfOk result (λ made. view made ≡ column_data rule.now) }
+fn rule_data(
+    alloc: Global,
+    rule: &ColumnRule<'_>,
+    moment: Option<&str>,
+) -> Result<Value, AllocError>
+    ensures { IfOk result (λ made. view made ≡ column_data rule.now (option_copied moment.entry)) }
 {
     let mut members = Map::new(alloc);
     put_names(alloc, &mut members, rule)?;
     put_number_and_word(alloc, &mut members, &rule.ruling)?;
-    put_conditions(alloc, &mut members, &rule.ruling)?;
+    put_conditions(alloc, &mut members, &rule.ruling, moment)?;
     Ok(Value::Object(members))
 }
 
 /// Returns the rule of a column as an object, without spaces.
 #[tactic(auto, using(crate::proofs::JsonLemmas::rule_has_no_float))]
-pub(crate) fn rule_json(alloc: Global, rule: &ColumnRule<'_>) -> Result<String, AllocError>
-    ensures { IfOk result (λ text. string_bytes text ≡ compact_text (column_data rule.now)) }
+pub(crate) fn rule_json(
+    alloc: Global,
+    rule: &ColumnRule<'_>,
+    moment: Option<&str>,
+) -> Result<String, AllocError>
+    ensures { IfOk result (λ text. string_bytes text
+        ≡ compact_text (column_data rule.now (option_copied moment.entry))) }
 {
-    let object = rule_data(alloc, rule)?;
+    let object = rule_data(alloc, rule, moment)?;
+    object.to_string(alloc)
+}
+
+fn grant_data(alloc: Global, grant: &Grant, moment: &str) -> Result<Value, AllocError>
+    ensures { IfOk result (λ made. view made ≡ grant_data grant.now.entry moment.now
+        grant.now.user grant.now.purpose grant.now.recipient) }
+{
+    let mut members = Map::new(alloc);
+    put_number(alloc, &mut members, "entry", grant.entry)?;
+    put_text(alloc, &mut members, "moment", moment)?;
+    put_text(alloc, &mut members, "purpose", grant.purpose.as_str())?;
+    put_text(alloc, &mut members, "recipient", grant.recipient.as_str())?;
+    put_text(alloc, &mut members, "user", grant.user.as_str())?;
+    Ok(Value::Object(members))
+}
+
+/// Returns an authorization as an object, without spaces.
+pub(crate) fn grant_json(alloc: Global, grant: &Grant, moment: &str) -> Result<String, AllocError>
+    ensures { IfOk result (λ text. string_bytes text ≡ compact_text (grant_data grant.now.entry
+        moment.now grant.now.user grant.now.purpose grant.now.recipient)) }
+{
+    let object = grant_data(alloc, grant, moment)?;
     object.to_string(alloc)
 }

@@ -4,11 +4,14 @@ ghost use Rattle.std.specs.Option.{option_map_or};
 ghost use Rattle.csv.specs.Records.{fields_of};
 ghost use Rattle.hippo_policy.specs.Rulings.{ruling_of, opt_in_of};
 ghost use Rattle.hippo_history_statements.specs.Telling.{name_at};
-ghost use Rattle.hippo_history_formats.specs.Formats.{csv_line, rule_number, ruling_word, rule_item, rule_days, opt_word};
+ghost use Rattle.hippo_history_formats.specs.Formats.{csv_line, rule_number, ruling_word, rule_item, rule_days, opt_word, grant_fields};
 ghost use Rattle.hippo_history_formats.specs.Shown.{told_fields, shown_fields, column_fields};
 
+use crate::grants::Grant;
 use crate::questions::Question;
-use crate::rulings::{ColumnRule, column_name, days_of, item_of, number_of, opt_of, ruling_word};
+use crate::rulings::{
+    ColumnRule, column_name, days_of, item_of, opt_of, ruling_number, ruling_word,
+};
 use crate::told::{Shown, Told};
 use csv::{Error, StringRecord, WriterBuilder};
 use hippo_model::RuleAt;
@@ -126,13 +129,18 @@ fn text_field<'a>(text: Option<&'a str>) -> &'a str
     }
 }
 
-// Adds the number of a rule's entry, and the word for its kind.
-fn push_ruling(fields: &mut StringRecord, ruling: &RuleAt<'_>) -> Result<(), AllocError>
+// Adds the number of a rule's entry, its moment, and the word for the rule's kind.
+fn push_ruling(
+    fields: &mut StringRecord,
+    ruling: &RuleAt<'_>,
+    moment: Option<&str>,
+) -> Result<(), AllocError>
     ensures { OnOk result (fields_of fields.new ≡ fields_of fields.old
-        ++ (decimal (rule_number (ruling_of ruling.now)) ∷ ruling_word (ruling_of ruling.now)
-        ∷ [])) }
+        ++ (decimal (rule_number (ruling_of ruling.now)) ∷ unwrap_or (option_copied moment.entry) []
+        ∷ ruling_word (ruling_of ruling.now) ∷ [])) }
 {
-    fields.push_field(Buffer::new().format(number_of(ruling)))?;
+    fields.push_field(Buffer::new().format(ruling_number(ruling)))?;
+    fields.push_field(text_field(moment))?;
     fields.push_field(ruling_word(ruling))
 }
 
@@ -165,12 +173,37 @@ fn push_conditions(fields: &mut StringRecord, ruling: &RuleAt<'_>) -> Result<(),
 }
 
 /// Returns the rule of a column as a record.
-pub(crate) fn rule_record(alloc: Global, rule: &ColumnRule<'_>) -> Result<StringRecord, AllocError>
-    ensures { IfOk result (λ made. fields_of made ≡ column_fields rule.now) }
+pub(crate) fn rule_record(
+    alloc: Global,
+    rule: &ColumnRule<'_>,
+    moment: Option<&str>,
+) -> Result<StringRecord, AllocError>
+    ensures { IfOk result (λ made. fields_of made
+        ≡ column_fields rule.now (option_copied moment.entry)) }
 {
     let mut fields = StringRecord::new(alloc);
-    push_ruling(&mut fields, &rule.ruling)?;
+    push_ruling(&mut fields, &rule.ruling, moment)?;
     push_names(&mut fields, rule)?;
     push_conditions(&mut fields, &rule.ruling)?;
+    Ok(fields)
+}
+
+/// Returns an authorization as a record.
+pub(crate) fn grant_record(
+    alloc: Global,
+    grant: &Grant,
+    moment: &str,
+) -> Result<StringRecord, AllocError>
+    ensures { IfOk result (λ made. fields_of made ≡ grant_fields grant.now.entry moment.now
+        grant.now.user grant.now.purpose grant.now.recipient) }
+{
+    let mut fields = StringRecord::new(alloc);
+    push_entry(&mut fields, grant.entry, moment)?;
+    push_three(
+        &mut fields,
+        grant.user.as_str(),
+        grant.purpose.as_str(),
+        grant.recipient.as_str(),
+    )?;
     Ok(fields)
 }

@@ -1,5 +1,6 @@
 //! The rule of a column as a line in each format.
-ghost use Rattle.std.specs.Prelude.{◌≡◌, ◌++◌, Some, option_copied, OnOk};
+ghost use Rattle.std.specs.Prelude.{◌≡◌, ◌++◌, Some, option_copied, option_map, IfOk, OnOk};
+ghost use Rattle.hippo_values_text.specs.Dates.{moment_text};
 ghost use Rattle.hippo_model.specs.Rules.{allowed, revoked};
 ghost use Rattle.hippo_policy.specs.Rulings.{ruling_of, opt_in_of};
 ghost use Rattle.hippo_report.specs.declared.format.Format.TheVariants.{Text};
@@ -8,11 +9,11 @@ ghost use Rattle.hippo_history_formats.specs.Formats.{ruling_text, silence_text,
 use crate::objects::rule_json;
 use crate::records::{append_record, rule_record};
 use crate::rulings::ColumnRule;
-use crate::told::append_text_line;
+use crate::told::{append_text_line, moment_of};
 use hippo_history_statements::{Rule, append_allow, append_rule};
 use hippo_model::{Column, RuleAt};
 use hippo_report::Format;
-use hippo_values::{Memory, Name, Txt};
+use hippo_values::{Memory, Moment, Name, Txt};
 use itoa::Buffer;
 use std::alloc::Global;
 
@@ -90,13 +91,32 @@ fn append_silence(ruling: &RuleAt<'_>, out: &mut Txt) -> Result<(), Memory>
 fn append_statement(rule: &ColumnRule<'_>, out: &mut Txt) -> Result<(), Memory>
     ensures { OnOk result (out.new ≡ out.old
         ++ rule_line Text rule.now.purpose.now rule.now.recipient.now rule.now.schema.now
-        rule.now.place (ruling_of rule.now.ruling) (opt_in_of rule.now.ruling)) }
+        rule.now.place (ruling_of rule.now.ruling) rule.now.moment
+        (opt_in_of rule.now.ruling)) }
 {
     let places = [rule.place];
     let named = Rule::new(rule.purpose, rule.recipient, &rule.schema.name, &places);
     append_ruling(rule.schema.columns.as_slice(), &named, &rule.ruling, out)?;
     append_silence(&rule.ruling, out)?;
     out.append("\n")
+}
+
+fn moment_text(alloc: Global, moment: &Option<Moment>) -> Result<Option<Txt>, Memory>
+    ensures { IfOk result (λ text. text ≡ option_map moment_text moment.now) }
+{
+    match moment {
+        None => Ok(None),
+        Some(moment) => Ok(Some(moment_of(alloc, moment)?)),
+    }
+}
+
+fn lent(text: &Option<Txt>) -> Option<&str>
+    ensures { option_copied result ≡ text.now }
+{
+    match text {
+        None => None,
+        Some(text) => Some(text.as_str()),
+    }
 }
 
 /// Appends the rule of a column as a line in a format.
@@ -108,16 +128,19 @@ pub fn append_rule_line(
 ) -> Result<(), Memory>
     ensures { OnOk result (out.new ≡ out.old
         ++ rule_line format rule.now.purpose.now rule.now.recipient.now rule.now.schema.now
-        rule.now.place (ruling_of rule.now.ruling) (opt_in_of rule.now.ruling)) }
+        rule.now.place (ruling_of rule.now.ruling) rule.now.moment
+        (opt_in_of rule.now.ruling)) }
 {
     match format {
         Format::Text => append_statement(rule, out),
         Format::Json => {
-            let text = rule_json(alloc, rule)?;
+            let moment = moment_text(alloc, &rule.moment)?;
+            let text = rule_json(alloc, rule, lent(&moment))?;
             append_text_line(text.as_str(), out)
         }
         Format::Csv => {
-            let fields = rule_record(alloc, rule)?;
+            let moment = moment_text(alloc, &rule.moment)?;
+            let fields = rule_record(alloc, rule, lent(&moment))?;
             append_record(alloc, &fields, out)
         }
     }

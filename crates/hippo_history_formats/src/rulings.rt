@@ -5,7 +5,7 @@ ghost use Rattle.hippo_history_statements.specs.Telling.{name_at};
 ghost use Rattle.hippo_history_formats.specs.Formats.{rule_number, ruling_word, rule_item, rule_days, opt_word};
 
 use hippo_model::{RuleAt, Schema};
-use hippo_values::Name;
+use hippo_values::{Moment, Name};
 
 /// The rule of a table's column for a purpose and a recipient.
 #[derive(Clone, Copy)]
@@ -15,6 +15,8 @@ pub struct ColumnRule<'a> {
     pub schema: &'a Schema,
     pub place: usize,
     pub ruling: RuleAt<'a>,
+    /// The moment of the rule's entry, if there is a rule.
+    pub moment: Option<Moment>,
 }
 
 /// The column's name.
@@ -27,7 +29,8 @@ pub(crate) fn column_name<'a>(rule: &ColumnRule<'a>) -> &'a str
     }
 }
 
-pub(crate) fn number_of(ruling: &RuleAt<'_>) -> u64
+/// The number of a rule's entry, or 0 if there is no rule.
+pub fn ruling_number(ruling: &RuleAt<'_>) -> u64
     ensures { result ≡ rule_number (ruling_of ruling.now) }
 {
     match *ruling {

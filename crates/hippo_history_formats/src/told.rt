@@ -40,8 +40,8 @@ pub fn append_moment(moment: &Moment, out: &mut Txt) -> Result<(), Memory>
     }
 }
 
-// A moment as every line shows it.
-fn moment_of(alloc: Global, moment: &Moment) -> Result<Txt, Memory>
+/// A moment as every line shows it.
+pub(crate) fn moment_of(alloc: Global, moment: &Moment) -> Result<Txt, Memory>
     ensures { IfOk result (λ text. text ≡ moment_text moment.now) }
 {
     let mut text = Txt::new(alloc);

@@ -91,7 +91,7 @@ module _ (known : KnownNames) (excerpt : Excerpt) (entry : Entry) (clock : Optio
     asked (Some ending) writes = absurd writes
 
 -- the only entry that has a form
-one_entry : (kept : StoredEntry) (entry : Entry) → IsEntryOf kept (Some entry) → (entries : History) → HasForms (kept ∷ []) entries → entries ≡ entry ∷ []
+pub one_entry : (kept : StoredEntry) (entry : Entry) → IsEntryOf kept (Some entry) → (entries : History) → HasForms (kept ∷ []) entries → entries ≡ entry ∷ []
 one_entry kept entry found [] forms = absurd (let no : [] ≡ kept ∷ [] = forms.forms in cc)
 one_entry kept entry found (other ∷ []) forms =
     let form : stored other ≡ kept = first_of forms.forms in
@@ -101,6 +101,16 @@ one_entry kept entry found (other ∷ []) forms =
     first_of : stored other ∷ [] ≡ kept ∷ [] → stored other ≡ kept
     first_of e = cc
 one_entry kept entry found (other ∷ next ∷ more) forms = absurd (let no : stored other ∷ stored next ∷ map stored more ≡ kept ∷ [] = forms.forms in cc)
+
+-- no entries have a form that no entry has
+pub no_entry : (kept : StoredEntry) → IsEntryOf kept None → (entries : History) → HasForms (kept ∷ []) entries → ⊥
+no_entry kept found [] forms = absurd (let no : [] ≡ kept ∷ [] = forms.forms in cc)
+no_entry kept found (other ∷ more) forms =
+    let form : stored other ≡ kept = first_of forms.forms in
+    none-some other (found.only other ((and_parts (is_keepable other) (list_all is_keepable more) forms.keepable).0, form))
+  where
+    first_of : stored other ∷ map stored more ≡ kept ∷ [] → stored other ≡ kept
+    first_of e = cc
 
 abbrev cuts_so : Ending → Bool
 cuts_so ending = cuts (Some ending)
@@ -122,15 +132,6 @@ module _ (known : KnownNames) (excerpt : Excerpt) (kept : StoredEntry) (clock cl
       alone : entry_shown known excerpt clock entry ≡ entry_shown known excerpt clock entry ++ []
       alone = sym (append-nil (entry_shown known excerpt clock entry))
 
-  none_there : IsEntryOf kept None → (entries : History) → HasForms (kept ∷ []) entries → ⊥
-  none_there found [] forms = absurd (let no : [] ≡ kept ∷ [] = forms.forms in cc)
-  none_there found (other ∷ more) forms =
-      let form : stored other ≡ kept = first_of forms.forms in
-      none-some other (found.only other ((and_parts (is_keepable other) (list_all is_keepable more) forms.keepable).0, form))
-    where
-      first_of : stored other ∷ map stored more ≡ kept ∷ [] → stored other ≡ kept
-      first_of e = cc
-
   -- no entry has this form, and that is reported
   pub of_none : (ending : Ending) (line : Txt) → IsEntryOf kept None → Says Damaged line WriteFault ending written written' faults faults'
       → ShowsKept known excerpt (kept ∷ []) (Some ending) clock clock' written written' faults faults'
@@ -139,8 +140,8 @@ module _ (known : KnownNames) (excerpt : Excerpt) (kept : StoredEntry) (clock cl
     writes = by_writes says;
     whole = λ on. absurd cc;
     moment = λ on. absurd cc;
-    front = λ entries forms. absurd (none_there found entries forms);
-    damaged = λ is entries forms. none_there found entries forms;
+    front = λ entries forms. absurd (no_entry kept found entries forms);
+    damaged = λ is entries forms. no_entry kept found entries forms;
   }
     where
       by_ends : Says Damaged line WriteFault ending written written' faults faults' → cuts_so ending ≡ true

@@ -24,14 +24,14 @@ use Rattle.hippo_program_args.proofs.WriteLemmas.{front_of_more, whole_and_front
 use Rattle.hippo_history_top.proofs.WriteLemmas.{none_written, none_of, CountsWrites-same}
 
 -- entries with these stored forms, before a place and after it
-record Splits (first second : Store) (entries : History) : Type 0 where
-  front : History
-  later : History
-  parts : entries ≡ front ++ later
-  first_forms : HasForms first front
-  second_forms : HasForms second later
+pub record Splits (first second : Store) (entries : History) : Type 0 where
+  pub front : History
+  pub later : History
+  pub parts : entries ≡ front ++ later
+  pub first_forms : HasForms first front
+  pub second_forms : HasForms second later
 
-split : (first second : Store) (entries : History) → HasForms (first ++ second) entries → Splits first second entries
+pub split : (first second : Store) (entries : History) → HasForms (first ++ second) entries → Splits first second entries
 split [] second entries has = record { front = []; later = entries; parts = refl; first_forms = record { forms = refl; keepable = refl }; second_forms = has }
 split (kept ∷ first) second [] has = absurd (let no : [] ≡ kept ∷ (first ++ second) = has.forms in cc)
 split (kept ∷ first) second (entry ∷ entries) has =
@@ -50,6 +50,11 @@ split (kept ∷ first) second (entry ∷ entries) has =
 
     others : stored entry ∷ map stored entries ≡ kept ∷ (first ++ second) → map stored entries ≡ first ++ second
     others e = cc
+
+-- no forms are those of no entries
+pub no_entries : (entries : History) → HasForms [] entries → entries ≡ []
+no_entries [] forms = refl
+no_entries (entry ∷ entries) forms = absurd (let no : stored entry ∷ map stored entries ≡ [] = forms.forms in cc)
 
 module _ (known : KnownNames) (excerpt : Excerpt) where
   -- entries, and others after them
@@ -74,10 +79,6 @@ module _ (known : KnownNames) (excerpt : Excerpt) where
     front = λ entries forms. none_of written (entries_shown known excerpt clock entries);
     damaged = λ is. absurd cc;
   }
-    where
-      no_entries : (entries : History) → HasForms [] entries → entries ≡ []
-      no_entries [] forms = refl
-      no_entries (entry ∷ entries) forms = absurd (let no : stored entry ∷ map stored entries ≡ [] = forms.forms in cc)
 
   -- memory ran out
   pub ShowsKept-unread : (store : Store) (clock : Option Moment) (written : Option Txt) (faults : ℕ) → ShowsKept known excerpt store (Some NoMemory) clock clock written written faults faults

@@ -9,6 +9,11 @@ mod NameLemmas
 mod PolicyLemmas
 mod PageLemmas
 mod DigestLemmas
+mod GatherLemmas
+mod GatheredLemmas
+mod MomentLemmas
+mod NumberLemmas
+mod GrantLemmas
 mod QuestionLemmas
 mod DigestExamples
 mod CommandLineExamples

@@ -1,7 +1,7 @@
 -- The names that an entry found are also those of the whole history: tables are never renamed or
 -- dropped, and texts keep their meanings.
 use Rattle.std.proofs.Common.{◌≡◌, ◌∙◌, ◌+◌, ◌&&◌, ℕ, Bool, true, false, cond, [], ◌∷◌, ◌++◌, length, take, Option, Some, None, refl, sym, ap, subst, append_assoc, arith}
-use Rattle.std.specs.Prelude.{◌==◌, is_some, nat_le, option_and_then, bytes_eq}
+use Rattle.std.specs.Prelude.{◌==◌, is_some, option_and_then, bytes_eq}
 use Rattle.std.specs.List.{list_any}
 use Rattle.std.specs.Option.{option_map_or}
 use Rattle.std.proofs.lemmas.Bool.{and_parts, false≢true}
@@ -34,6 +34,7 @@ use Rattle.hippo_history_top.specs.declared.asking.Form.TheVariants.{Listing, Sc
 use Rattle.hippo_history_top.specs.declared.asking.Scope.{Scope}
 use Rattle.hippo_history_top.specs.declared.asking.Scope.TheVariants.{Whole, Table}
 use Rattle.hippo_history_formats.specs.Formats.{entry_by}
+use Rattle.hippo_history_top.specs.Dating.{is_from, is_to}
 use Rattle.hippo_history_top.specs.ByNames.{schema_named, shown_as, entry_shown, clock_after, entries_shown}
 use Rattle.hippo_history_top.specs.Showing.{is_in_scope, is_of, is_in_excerpt, act_lines, clock_line, told_as, is_told, entry_where, clock_where, entries_told}
 
@@ -92,7 +93,7 @@ module _ (front : History) (entry : Entry) (later : History) (valid : is_valid m
   finds_same : (excerpt : Excerpt) → FindsSame whole excerpt entry
   finds_same excerpt = record {
     schema = schema_same entry.act acceptable ∙ ap (λ (h : History). option_and_then (schema_at h) (table_named entry.act)) (sym before);
-    asked = ap (λ (within : Bool). nat_le excerpt.first entry.seq && nat_le entry.seq excerpt.last && is_of excerpt.acts entry.act && within) (within_same excerpt.scope entry.act acceptable)
+    asked = ap (λ (within : Bool). is_from excerpt.first entry && is_to excerpt.last entry && is_of excerpt.acts entry.act && within) (within_same excerpt.scope entry.act acceptable)
         ∙ ap (λ (h : History). is_in_excerpt (known_at h) excerpt entry) (sym before);
   }
 

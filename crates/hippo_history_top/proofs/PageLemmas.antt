@@ -1,31 +1,26 @@
 -- The results of showing what is asked for, by what was written.
-use Rattle.std.proofs.Common.{◌≡◌, ◌≢◌, ◌∙◌, ℕ, ◌+◌, ◌≤◌, true, false, Option, Some, None, take, unwrap_or, arith, refl, sym, ap, subst}
+use Rattle.std.proofs.Common.{◌≡◌, ◌≢◌, ◌∙◌, ℕ, ◌+◌, ◌≤◌, true, false, Option, Some, None, unwrap_or, refl, sym, ap, subst}
 use Rattle.std.proofs.lemmas.Bool.{false≢true}
 use Rattle.hippo_values.specs.Texts.{Txt}
 use Rattle.hippo_io.specs.Told.{Appends, AppendsFront}
 use Rattle.hippo_model.specs.Terms.{History}
-use Rattle.hippo_policy.specs.Books.{BookRepresents}
 use Rattle.hippo_keeper.specs.Answering.{has_failed}
-use Rattle.hippo_keeper.specs.Keeping.{KeeperState, IsReady, IsAfterCall, KeepsSame}
+use Rattle.hippo_keeper.specs.Keeping.{KeeperState, IsAfterCall, KeepsSame}
 use Rattle.hippo_keeper.specs.Selecting.{stored_versions}
-use Rattle.hippo_keeper.proofs.CallLemmas.{IsAfterCall-none, KeepsSame-here}
 use Rattle.hippo_replay.specs.Standing.{Represents}
 use Rattle.hippo_replay.specs.declared.state.State.{State}
 use Rattle.hippo_history_top.specs.declared.asking.Excerpt.{Excerpt}
-use Rattle.hippo_history_top.specs.declared.asking.Page.{Page}
 use Rattle.hippo_history_top.specs.declared.asking.View.{View}
-use Rattle.hippo_history_top.specs.declared.asking.View.TheVariants.{Entries, Rules}
+use Rattle.hippo_history_top.specs.declared.asking.View.TheVariants.{Entries}
 use Rattle.hippo_program_args.specs.declared.endings.Ending.{Ending}
 use Rattle.hippo_program_args.specs.declared.endings.Ending.TheVariants.{Served, Refused, KeeperFault, ReadFault, WriteFault, Damaged, NoMemory, TooMuch}
 use Rattle.hippo_program_args.specs.Endings.{ending_as_call}
 use Rattle.hippo_history_top.specs.Endings.{ends_showing}
-use Rattle.hippo_history_top.specs.Ruling.{rules_by_names}
 use Rattle.hippo_history_top.specs.Saying.{Writes}
 use Rattle.hippo_history_top.specs.ByNames.{entries_shown}
 use Rattle.hippo_history_top.specs.Showing.{shown_text}
 use Rattle.hippo_history_top.specs.Progress.{HasForms, ShowsAll, WritesPage, ShowsLoaded}
 use Rattle.hippo_history_top.proofs.NameLemmas.{told_by_names}
-use Rattle.hippo_history_top.proofs.PolicyLemmas.{rules_of_first}
 use Rattle.hippo_history_top.proofs.WriteLemmas.{none_of, whole_front, CountsWrites-same}
 
 module _ (IsSo : History → Type 0) (page : History → Txt) (written : Option Txt) (faults : ℕ) where
@@ -133,19 +128,3 @@ module _ (state : State) (written written' : Option Txt) (faults faults' : ℕ) 
     loaded_page (Some KeeperFault) writes = absurd (false≢true writes.ends)
     loaded_page (Some ReadFault) writes = absurd (false≢true writes.ends)
     loaded_page (Some TooMuch) writes = absurd (false≢true writes.ends)
-
-  -- the rules are computed in memory, and nothing is read for them
-  module _ (page : Page) (keeper : KeeperState) (ready : IsReady true keeper) (ticks : ℕ) where
-    abbrev text : History → Txt
-    text history = rules_by_names state.catalog.names page.format page.scope (take page.last history)
-
-    named : (history : History) → Represents state history → text history ≡ shown_text (Rules page) history
-    named history stands =
-        ap (λ known. rules_by_names known page.format page.scope (take page.last history)) stands.names ∙ rules_of_first history stands.valid page.last page.format page.scope
-
-    pub loaded_rules : (cut : Option Ending) → WritesPage (BookRepresents state.book) text cut written written' faults faults'
-        → ShowsLoaded state (Rules page) (unwrap_or cut Served) keeper keeper written written' faults faults' ticks ticks
-    loaded_rules cut writes =
-        loaded_page (Rules page) keeper keeper ticks ticks (BookRepresents state.book) text
-        (λ ending fine. IsAfterCall-none (ending_as_call ending) keeper fine ready) (λ tells. KeepsSame-here keeper) (λ tells. omega arith)
-        (λ tells history stands forms. (stands.book, named history stands)) cut writes

@@ -25,11 +25,10 @@ use Rattle.hippo_typing_catalog.specs.Catalogs.{KnownNames, known_at, known_afte
 use Rattle.hippo_typing.specs.Meanings.{meaning}
 use Rattle.hippo_typing.proofs.CatalogTheorem.{names_grow, valid_names}
 use Rattle.hippo_typing.proofs.LastingNames.{extends_later}
-use Rattle.hippo_report.specs.declared.format.Format.{Format}
 use Rattle.hippo_history_top.specs.declared.asking.Scope.{Scope}
 use Rattle.hippo_history_top.proofs.LoopLemmas.{place_passes, place_fails}
 use Rattle.hippo_history_top.proofs.NameLemmas.{acceptable}
-use Rattle.hippo_history_top.specs.Ruling.{column_rule, is_ruled, columns_shown, has_table, table_shown, tables_shown, rules_by_names, rules_shown}
+use Rattle.hippo_history_top.specs.Ruling.{RuleLine, column_rule, is_ruled, columns_shown, has_table, table_shown, tables_shown, rules_by_names, rules_shown}
 
 -- what a history says last is said by one of its entries
 record IsSaid {A : Type 0} (word : Entry → Option A) (history : History) (said : A) : Type 0 where
@@ -135,13 +134,13 @@ flat_none f (x ∷ list) none = λ i. none x i ++ flat_none f list none i
 flat_same : {A : Type 0} (f : A → Txt) (list : List A) (x : A) → f x ≡ [] → flat_map f (list ++ x ∷ []) ≡ flat_map f list
 flat_same f list x none = flat_map-append f list (x ∷ []) ∙ ap (λ (t : Txt). flat_map f list ++ (t ++ [])) none ∙ append-nil (flat_map f list)
 
-module _ (front : History) (valid : is_valid meaning front ≡ true) (format : Format) (scope : Scope) where
-  no_text : (purpose recipient : Name) (schema : Schema) → (Exists front purpose recipient schema.name → ⊥) → table_shown format scope front purpose recipient schema ≡ []
+module _ (front : History) (valid : is_valid meaning front ≡ true) (line : RuleLine) (scope : Scope) where
+  no_text : (purpose recipient : Name) (schema : Schema) → (Exists front purpose recipient schema.name → ⊥) → table_shown line scope front purpose recipient schema ≡ []
   no_text purpose recipient schema none =
       let unruled = false_from_ne_true (is_ruled front purpose recipient schema) (λ is. none (ruled_exist front valid purpose recipient schema is)) in
       by_scope (has_table scope schema.name) (is_ruled front purpose recipient schema) unruled
     where
-      by_scope : (asked ruled : Bool) → ruled ≡ false → cond (asked && ruled) (columns_shown format front purpose recipient schema) [] ≡ []
+      by_scope : (asked ruled : Bool) → ruled ≡ false → cond (asked && ruled) (columns_shown line front purpose recipient schema) [] ≡ []
       by_scope true true e = absurd (false≢true (sym e))
       by_scope true false e = refl
       by_scope false ruled e = refl
@@ -168,52 +167,52 @@ module _ (front : History) (valid : is_valid meaning front ≡ true) (format : F
     none_and_some None none some = false≢true some
     none_and_some (Some schema) none some = false≢true none
 
-    by_act : (act : Act) → is_acceptable meaning history act ≡ true → rules_by_names (known_after (known_at history) act) format scope front ≡ rules_by_names (known_at history) format scope front
+    by_act : (act : Act) → is_acceptable meaning history act ≡ true → rules_by_names (known_after (known_at history) act) line scope front ≡ rules_by_names (known_at history) line scope front
     by_act (Create schema) fits =
         let first = (and_parts (nat_lt (count_by (λ (e : Entry). creates_table e.act) history) table_limit && is_none (schema_at history schema.name)) (is_well_formed schema) fits).0 in
         let none = (and_parts (nat_lt (count_by (λ (e : Entry). creates_table e.act) history) table_limit) (is_none (schema_at history schema.name)) first).1 in
         let known = known_at history in
-        let same : (purpose recipient : Name) → tables_shown (known_after known (Create schema)) format scope front purpose recipient ≡ tables_shown known format scope front purpose recipient =
-        λ purpose recipient. flat_same (λ named. table_shown format scope front purpose recipient named.1) known.tables (schema.name, schema)
+        let same : (purpose recipient : Name) → tables_shown (known_after known (Create schema)) line scope front purpose recipient ≡ tables_shown known line scope front purpose recipient =
+        λ purpose recipient. flat_same (λ named. table_shown line scope front purpose recipient named.1) known.tables (schema.name, schema)
         (no_text purpose recipient schema (λ exist. none_and_some (schema_at history schema.name) none (here exist).table_is)) in
         λ i. flat_map (λ purpose. flat_map (λ recipient. same purpose recipient i) known.recipients) known.purposes
     by_act (Purpose name) fits =
         let known = known_at history in
-        flat_same (λ purpose. flat_map (λ recipient. tables_shown known format scope front purpose recipient) known.recipients) known.purposes name
-        (flat_none (λ recipient. tables_shown known format scope front name recipient) known.recipients (λ recipient. flat_none (λ named. table_shown format scope front name recipient named.1) known.tables
+        flat_same (λ purpose. flat_map (λ recipient. tables_shown known line scope front purpose recipient) known.recipients) known.purposes name
+        (flat_none (λ recipient. tables_shown known line scope front name recipient) known.recipients (λ recipient. flat_none (λ named. table_shown line scope front name recipient named.1) known.tables
         (λ named. no_text name recipient named.1 (λ exist. not_both (is_purpose history name) fits (here exist).purpose_is))))
     by_act (Recipient name) fits =
         let known = known_at history in
-        let same : (purpose : Name) → flat_map (λ recipient. tables_shown known format scope front purpose recipient) (known.recipients ++ name ∷ []) ≡ flat_map (λ recipient. tables_shown known format scope front purpose recipient) known.recipients =
-        λ purpose. flat_same (λ recipient. tables_shown known format scope front purpose recipient) known.recipients name
-        (flat_none (λ named. table_shown format scope front purpose name named.1) known.tables
+        let same : (purpose : Name) → flat_map (λ recipient. tables_shown known line scope front purpose recipient) (known.recipients ++ name ∷ []) ≡ flat_map (λ recipient. tables_shown known line scope front purpose recipient) known.recipients =
+        λ purpose. flat_same (λ recipient. tables_shown known line scope front purpose recipient) known.recipients name
+        (flat_none (λ named. table_shown line scope front purpose name named.1) known.tables
         (λ named. no_text purpose name named.1 (λ exist. not_both (is_recipient history name) fits (here exist).recipient_is))) in
         λ i. flat_map (λ purpose. same purpose i) known.purposes
     by_act act fits = refl
 
-    one_more_entry : rules_by_names (known_at (history ++ entry ∷ [])) format scope front ≡ rules_by_names (known_at history) format scope front
-    one_more_entry = ap (λ (known : KnownNames). rules_by_names known format scope front) (names_grow history entry) ∙ by_act entry.act next_fits
+    one_more_entry : rules_by_names (known_at (history ++ entry ∷ [])) line scope front ≡ rules_by_names (known_at history) line scope front
+    one_more_entry = ap (λ (known : KnownNames). rules_by_names known line scope front) (names_grow history entry) ∙ by_act entry.act next_fits
 
-  same_after : (middle later : History) → is_valid meaning ((front ++ middle) ++ later) ≡ true → rules_by_names (known_at ((front ++ middle) ++ later)) format scope front ≡ rules_by_names (known_at (front ++ middle)) format scope front
-  same_after middle [] sound = ap (λ (h : History). rules_by_names (known_at h) format scope front) (append-nil (front ++ middle))
+  same_after : (middle later : History) → is_valid meaning ((front ++ middle) ++ later) ≡ true → rules_by_names (known_at ((front ++ middle) ++ later)) line scope front ≡ rules_by_names (known_at (front ++ middle)) line scope front
+  same_after middle [] sound = ap (λ (h : History). rules_by_names (known_at h) line scope front) (append-nil (front ++ middle))
   same_after middle (entry ∷ later) sound =
       let regrouped : (front ++ (middle ++ entry ∷ [])) ++ later ≡ (front ++ middle) ++ entry ∷ later =
       ap (λ (h : History). h ++ later) (sym (append_assoc front middle (entry ∷ []))) ∙ append_assoc (front ++ middle) (entry ∷ []) later in
       let whole : is_valid meaning ((front ++ (middle ++ entry ∷ [])) ++ later) ≡ true = ap (is_valid meaning) regrouped ∙ sound in
       let one : is_valid meaning ((front ++ middle) ++ entry ∷ []) ≡ true = ap (is_valid meaning) (append_assoc front middle (entry ∷ [])) ∙ front_is_valid meaning (front ++ (middle ++ entry ∷ [])) later whole in
-      ap (λ (h : History). rules_by_names (known_at h) format scope front) (sym regrouped) ∙ same_after (middle ++ entry ∷ []) later whole
-      ∙ ap (λ (h : History). rules_by_names (known_at h) format scope front) (sym (append_assoc front middle (entry ∷ []))) ∙ one_more_entry middle entry one
+      ap (λ (h : History). rules_by_names (known_at h) line scope front) (sym regrouped) ∙ same_after (middle ++ entry ∷ []) later whole
+      ∙ ap (λ (h : History). rules_by_names (known_at h) line scope front) (sym (append_assoc front middle (entry ∷ []))) ∙ one_more_entry middle entry one
 
 -- the names of a valid history show the rules after its first entries as the names that these
 -- entries created do
-pub rules_of_first : (history : History) → is_valid meaning history ≡ true → (n : ℕ) (format : Format) (scope : Scope) → rules_by_names (known_at history) format scope (take n history) ≡ rules_shown format scope (take n history)
-rules_of_first history valid n format scope =
+pub rules_of_first : (history : History) → is_valid meaning history ≡ true → (n : ℕ) (line : RuleLine) (scope : Scope) → rules_by_names (known_at history) line scope (take n history) ≡ rules_shown line scope (take n history)
+rules_of_first history valid n line scope =
     let parts : take n history ++ drop n history ≡ history = take-append-drop n history in
     let nothing : (take n history ++ []) ++ drop n history ≡ history = ap (λ (h : History). h ++ drop n history) (append-nil (take n history)) ∙ parts in
     let first : is_valid meaning (take n history) ≡ true = front_is_valid meaning (take n history) (drop n history) (ap (is_valid meaning) parts ∙ valid) in
-    ap (λ (h : History). rules_by_names (known_at h) format scope (take n history)) (sym nothing)
-    ∙ same_after (take n history) first format scope [] (drop n history) (ap (is_valid meaning) nothing ∙ valid)
-    ∙ ap (λ (h : History). rules_by_names (known_at h) format scope (take n history)) (append-nil (take n history))
+    ap (λ (h : History). rules_by_names (known_at h) line scope (take n history)) (sym nothing)
+    ∙ same_after (take n history) first line scope [] (drop n history) (ap (is_valid meaning) nothing ∙ valid)
+    ∙ ap (λ (h : History). rules_by_names (known_at h) line scope (take n history)) (append-nil (take n history))
 
 -- whether some column has a rule, at one of them
 module _ (history : History) (purpose recipient : Name) (schema : Schema) (place : Place) (within : place < length schema.columns) where

@@ -2,10 +2,13 @@ pub mod CommandLine
 pub mod Endings
 pub mod Saying
 pub mod Ruling
+pub mod Dating
+pub mod Granting
 pub mod Digests
 pub mod Showing
 pub mod ByNames
 pub mod Progress
 pub mod Digesting
+pub mod Gathering
 pub mod Outcomes
 pub mod Calls

@@ -9,8 +9,12 @@ use Rattle.hippo_program_args.specs.declared.endings.Ending.TheVariants.{WriteFa
 -- how to call the program
 unfoldable pub showing_usage : Txt
 showing_usage =
-    codes "usage: hippo_history --store NAME [--entry N | [--from N] [--to N]] [--table NAME] [--rules | --digest | [--tables] [--script]]"
-    ++ codes " [--format text|json|csv]\n"
+    codes "usage: hippo_history --store NAME [--entry N | --at N|MOMENT | [--from N|MOMENT] [--to N|MOMENT]] [--table NAME]"
+    ++ codes " [--rules | --users | --digest | [--tables] [--script]] [--format text|json|csv]\n"
+
+-- there is no store with the name in the words
+unfoldable pub missing_line : Txt
+missing_line = codes "there is no store with this name\n"
 
 -- a text is written; or the sink failed, and a prefix of it is written; or memory ran out, and
 -- nothing is written

@@ -1,5 +1,5 @@
 -- What is shown of a history: the entries that are asked for, each with the statement that made it.
-use Rattle.std.specs.Prelude.{Bool, true, false, ◌&&◌, [], ◌∷◌, ◌++◌, take, nat_le, Option, Some, None, if◌then◌else◌, codes, bytes_eq}
+use Rattle.std.specs.Prelude.{Bool, true, false, ◌&&◌, [], ◌∷◌, ◌++◌, take, Option, Some, None, if◌then◌else◌, codes, bytes_eq}
 use Rattle.std.specs.List.{list_any}
 use Rattle.std.specs.Option.{option_map_or}
 use Rattle.std.specs.Ordering.{int_eq}
@@ -25,8 +25,10 @@ use Rattle.hippo_history_top.specs.declared.asking.Form.TheVariants.{Listing, Sc
 use Rattle.hippo_history_top.specs.declared.asking.Scope.{Scope}
 use Rattle.hippo_history_top.specs.declared.asking.Scope.TheVariants.{Whole, Table}
 use Rattle.hippo_history_top.specs.declared.asking.View.{View}
-use Rattle.hippo_history_top.specs.declared.asking.View.TheVariants.{Entries, Rules, Digest}
+use Rattle.hippo_history_top.specs.declared.asking.View.TheVariants.{Entries, Rules, Users, Digest}
 use Rattle.hippo_history_formats.specs.Formats.{entry_by}
+use Rattle.hippo_history_top.specs.Dating.{is_from, is_to, entries_to, moments_of, dated_line}
+use Rattle.hippo_history_top.specs.Granting.{grants_of, grants_shown}
 use Rattle.hippo_history_top.specs.Ruling.{rules_shown}
 use Rattle.hippo_history_top.specs.Digests.{digest_shown}
 
@@ -58,7 +60,7 @@ is_of Tables act = creates_table act
 -- whether an entry is asked for
 abbrev pub is_in_excerpt : KnownNames → Excerpt → Entry → Bool
 is_in_excerpt known excerpt entry =
-    nat_le excerpt.first entry.seq && nat_le entry.seq excerpt.last && is_of excerpt.acts entry.act
+    is_from excerpt.first entry && is_to excerpt.last entry && is_of excerpt.acts entry.act
     && is_in_scope known excerpt.scope entry.act
 
 -- a line of the console, and then the lines of a session that asks one question
@@ -114,9 +116,12 @@ abbrev pub entries_told : History → Excerpt → Option Moment → History → 
 entries_told history excerpt clock entries =
     entries_where (is_told history excerpt) (told_as history excerpt.form) clock entries
 
--- what is asked for of a history: an excerpt, the rules in force after its first entries, or the
--- digest of its first entries
+-- what is asked for of a history: an excerpt, or the rules in force, the authorizations in force or
+-- the digest after its first entries
 abbrev pub shown_text : View → History → Txt
 shown_text (Entries excerpt) history = entries_told history excerpt None history
-shown_text (Rules page) history = rules_shown page.format page.scope (take page.last history)
+shown_text (Rules page) history =
+    rules_shown (dated_line page.format (moments_of history)) page.scope (entries_to page.last history)
+shown_text (Users roster) history =
+    grants_shown roster.format (grants_of (entries_to roster.last history))
 shown_text (Digest last) history = digest_shown (take last history)

@@ -7,15 +7,17 @@ use clap::ArgMatches;
 use hippo_program_args::{Argument, text_of};
 
 /// The arguments that the command takes.
-pub(crate) const ARGUMENTS: [Argument<'static>; 10] = [
+pub(crate) const ARGUMENTS: [Argument<'static>; 12] = [
     Argument::Needed("store"),
     Argument::Entry("entry"),
-    Argument::Entry("from"),
-    Argument::Entry("to"),
+    Argument::Text("from"),
+    Argument::Text("to"),
+    Argument::Text("at"),
     Argument::Text("table"),
     Argument::Flag("tables"),
     Argument::Flag("script"),
     Argument::Flag("rules"),
+    Argument::Flag("users"),
     Argument::Flag("digest"),
     Argument::Text("format"),
 ];

@@ -1,6 +1,6 @@
 //! What a call of the program asks for.
 use hippo_report::Format;
-use hippo_values::{Name, Txt};
+use hippo_values::{Moment, Name, Txt};
 
 /// How entries are shown.
 #[derive(Clone, Copy, PartialEq, Eq)]
@@ -27,12 +27,21 @@ pub enum Acts {
     Tables,
 }
 
+/// One end of a stretch of entries.
+#[derive(Clone, Copy)]
+pub enum Bound {
+    /// The entry with this number.
+    Number(u64),
+    /// The entries at this moment.
+    At(Moment),
+}
+
 /// Some entries of a history, and how they are shown.
 #[derive(Drop)]
 pub struct Excerpt {
-    /// The number of the first entry; `last` is the number of the last.
-    pub first: u64,
-    pub last: u64,
+    /// Where the stretch of entries begins; `last` is where it ends. Both ends belong to it.
+    pub first: Bound,
+    pub last: Bound,
     pub acts: Acts,
     pub scope: Scope,
     pub form: Form,
@@ -42,9 +51,17 @@ pub struct Excerpt {
 /// how it is shown.
 #[derive(Drop)]
 pub struct Page {
-    /// The number of the last entry that is taken into account.
-    pub last: u64,
+    /// The end of the entries that are taken into account.
+    pub last: Bound,
     pub scope: Scope,
+    pub format: Format,
+}
+
+/// A list of the authorizations in force after some entries, and how it is shown.
+#[derive(Drop)]
+pub struct Roster {
+    /// The end of the entries that are taken into account.
+    pub last: Bound,
     pub format: Format,
 }
 
@@ -54,6 +71,8 @@ pub enum View {
     Entries(Excerpt),
     /// The rules in force.
     Rules(Page),
+    /// The authorizations in force.
+    Users(Roster),
     /// The digest of the entries up to this number.
     Digest(u64),
 }

@@ -1,21 +1,28 @@
-//! What a store holds, in a form that people can read: its entries, the rules in force, or a digest
-//! of its entries. This crate has the command line, the top function and the program that calls it.
+//! What a store holds, in a form that people can read: its entries, the rules or the authorizations
+//! in force, or a digest of its entries. This crate has the command line, the top function and the
+//! program that calls it.
 #![tactic(auto)]
 
 mod arguments;
 mod asking;
+mod bounds;
 mod digest;
 mod endings;
+mod gathering;
 mod lines;
+mod moments;
 mod printing;
 mod program;
 mod reading;
 mod rules;
 mod scope;
 mod showing;
+mod stores;
 mod top;
+mod users;
 
-pub use asking::{Acts, Call, Excerpt, Form, Page, Scope, View};
+pub use asking::{Acts, Bound, Call, Excerpt, Form, Page, Roster, Scope, View};
 pub use program::History;
 pub use reading::asked_of;
+pub use stores::Stores;
 pub use top::history_top;

@@ -1,6 +1,7 @@
 //! The program that shows a history, over any host.
 ghost use Rattle.hippo_history_top.specs.Calls.{HistoryCallEnds};
 
+use crate::stores::Stores;
 use crate::top::history_top;
 use hippo_io::{Sink, Source};
 use hippo_keeper::CountedKeeper;
@@ -8,11 +9,14 @@ use hippo_program_start::{Host, Program};
 use hippo_values::Txt;
 use std::sync::ledger::Ledger;
 
-/// The program `hippo_history`: [`history_top`] on a host. It reads no input.
-pub struct History;
+/// The program `hippo_history`: [`history_top`] on a host, and what tells which stores there are.
+/// It reads no input.
+pub struct History<D: Stores> {
+    pub stores: D,
+}
 
-impl Program for History {
-    ghost Answers = { λ program. HistoryCallEnds };
+impl<D: Stores> Program for History<D> {
+    ghost Answers = { λ program. HistoryCallEnds (D.Answers program.stores) };
 
     fn call<S: Source, K: Sink, P: CountedKeeper<L>, L: Ledger>(
         &self,
@@ -22,6 +26,7 @@ impl Program for History {
         history_top(
             host.alloc,
             words,
+            &self.stores,
             &mut host.sink,
             &mut host.keeper,
             &mut host.steps,

@@ -1,13 +1,15 @@
 //! What the words of a call ask for.
-ghost use Rattle.std.specs.Prelude.{◌≡◌, ◌||◌, codes, map, is_some, IfOk};
+ghost use Rattle.std.specs.Prelude.{◌≡◌, ◌||◌, not, codes, map, is_some, option_map, option_and_then, IfOk};
 ghost use Rattle.clap.specs.Words.{first_of, rows_of, found_of};
 ghost use Rattle.hippo_program_args.specs.Arguments.{FindsMatches};
-ghost use Rattle.hippo_history_top.specs.CommandLine.{showing_command_line, is_on, first_in, last_in, has_end, entry_fits, has_form, rules_fit, has_selection, digest_fits, options_fit, scope_of, is_text_format, format_fits, shown_form, acts_in, excerpt_in, page_in, view_in, call_with, call_in_format, showing_call, asked_of};
+ghost use Rattle.hippo_history_top.specs.declared.asking.View.TheVariants.{Digest};
+ghost use Rattle.hippo_history_top.specs.CommandLine.{showing_command_line, is_on, has_end, entry_fits, has_form, is_page, page_fits, users_fit, bound_fits, has_selection, digest_fits, options_fit, scope_of, is_text_format, format_fits, shown_form, acts_in, excerpt_view, page_end, page_to, roster_to, number_given, view_in, call_with, call_in_format, showing_call, asked_of};
 
 use crate::arguments::{ARGUMENTS, is_on};
-use crate::asking::{Acts, Call, Excerpt, Form, Page, Scope, View};
+use crate::asking::{Acts, Call, Excerpt, Form, Page, Roster, Scope, View};
+use crate::bounds::{first_in, last_in, number_given, page_end};
 use clap::ArgMatches;
-use hippo_program_args::{format_of, matches_in, number_or, text_of, texts_of};
+use hippo_program_args::{format_of, matches_in, text_of, texts_of};
 use hippo_report::Format;
 use hippo_values::{Memory, Name, Txt};
 use std::alloc::Global;
@@ -50,10 +52,42 @@ fn is_of_entries(matches: &ArgMatches<'_>) -> bool
     has_end(matches) || has_form(matches)
 }
 
-fn rules_fit(matches: &ArgMatches<'_>) -> bool
-    ensures { result ≡ rules_fit (rows_of (found_of matches.now)) }
+fn is_page(matches: &ArgMatches<'_>) -> bool
+    ensures { result ≡ is_page (rows_of (found_of matches.now)) }
 {
-    !(is_on(matches, "rules") && is_of_entries(matches))
+    is_on(matches, "rules") || is_on(matches, "users")
+}
+
+fn page_fits(matches: &ArgMatches<'_>) -> bool
+    ensures { result ≡ page_fits (rows_of (found_of matches.now)) }
+{
+    !(is_page(matches) && is_of_entries(matches))
+}
+
+fn is_of_rules(matches: &ArgMatches<'_>) -> bool
+    ensures { result ≡ (is_on (codes "rules") (rows_of (found_of matches.now))
+        || is_some (first_of (codes "table") (rows_of (found_of matches.now)))) }
+{
+    is_on(matches, "rules") || is_there(matches, "table")
+}
+
+fn users_fit(matches: &ArgMatches<'_>) -> bool
+    ensures { result ≡ users_fit (rows_of (found_of matches.now)) }
+{
+    !(is_on(matches, "users") && is_of_rules(matches))
+}
+
+fn has_no_bound(matches: &ArgMatches<'_>) -> bool
+    ensures { result ≡ (not (is_page (rows_of (found_of matches.now)))
+        || is_some (first_of (codes "entry") (rows_of (found_of matches.now)))) }
+{
+    !is_page(matches) || is_there(matches, "entry")
+}
+
+fn bound_fits(matches: &ArgMatches<'_>) -> bool
+    ensures { result ≡ bound_fits (rows_of (found_of matches.now)) }
+{
+    !(is_there(matches, "at") && has_no_bound(matches))
 }
 
 fn has_selection(matches: &ArgMatches<'_>) -> bool
@@ -68,9 +102,9 @@ fn has_selection(matches: &ArgMatches<'_>) -> bool
 fn is_of_no_digest(matches: &ArgMatches<'_>) -> bool
     ensures { result ≡ (has_selection (rows_of (found_of matches.now))
         || has_form (rows_of (found_of matches.now))
-        || is_on (codes "rules") (rows_of (found_of matches.now))) }
+        || is_page (rows_of (found_of matches.now))) }
 {
-    has_selection(matches) || has_form(matches) || is_on(matches, "rules")
+    has_selection(matches) || has_form(matches) || is_page(matches)
 }
 
 fn digest_fits(matches: &ArgMatches<'_>) -> bool
@@ -82,21 +116,11 @@ fn digest_fits(matches: &ArgMatches<'_>) -> bool
 fn fits(matches: &ArgMatches<'_>) -> bool
     ensures { result ≡ options_fit (rows_of (found_of matches.now)) }
 {
-    entry_fits(matches) && rules_fit(matches) && digest_fits(matches)
-}
-
-fn first_of(matches: &ArgMatches<'_>) -> Result<u64, Memory>
-    ensures { IfOk result (λ number. number ≡ first_in (rows_of (found_of matches.now))) }
-{
-    let from = number_or(matches, "from", 1)?;
-    number_or(matches, "entry", from)
-}
-
-fn last_of(matches: &ArgMatches<'_>) -> Result<u64, Memory>
-    ensures { IfOk result (λ number. number ≡ last_in (rows_of (found_of matches.now))) }
-{
-    let to = number_or(matches, "to", 4_000_000)?;
-    number_or(matches, "entry", to)
+    entry_fits(matches)
+        && page_fits(matches)
+        && users_fit(matches)
+        && bound_fits(matches)
+        && digest_fits(matches)
 }
 
 fn scope_of(alloc: Global, matches: &ArgMatches<'_>) -> Result<Option<Scope>, Memory>
@@ -144,55 +168,76 @@ fn acts_of(matches: &ArgMatches<'_>) -> Acts
     }
 }
 
-fn excerpt_of(matches: &ArgMatches<'_>, format: Format, scope: Scope) -> Result<Excerpt, Memory>
-    ensures { IfOk result (λ excerpt. excerpt
-        ≡ excerpt_in (rows_of (found_of matches.now)) format scope) }
+fn excerpt_of(matches: &ArgMatches<'_>, format: Format, scope: Scope) -> Option<View>
+    ensures { result ≡ excerpt_view (rows_of (found_of matches.now)) format scope }
 {
-    let first = first_of(matches)?;
-    let last = last_of(matches)?;
-    Ok(Excerpt {
+    let first = first_in(matches)?;
+    let last = last_in(matches)?;
+    Some(View::Entries(Excerpt {
         first,
         last,
         acts: acts_of(matches),
         scope,
         form: form_of(matches, format),
-    })
+    }))
 }
 
-fn page_of(matches: &ArgMatches<'_>, format: Format, scope: Scope) -> Result<Page, Memory>
-    ensures { IfOk result (λ page. page ≡ page_in (rows_of (found_of matches.now)) format scope) }
+fn page_of(matches: &ArgMatches<'_>, format: Format, scope: Scope) -> Option<View>
+    ensures { result ≡ option_map (page_to format scope)
+        (page_end (rows_of (found_of matches.now))) }
 {
-    let last = last_of(matches)?;
-    Ok(Page {
+    let last = page_end(matches)?;
+    Some(View::Rules(Page {
         last,
         scope,
         format,
-    })
+    }))
 }
 
-fn view_of(matches: &ArgMatches<'_>, format: Format, scope: Scope) -> Result<View, Memory>
-    ensures { IfOk result (λ view. view ≡ view_in (rows_of (found_of matches.now)) format scope) }
+fn roster_of(matches: &ArgMatches<'_>, format: Format) -> Option<View>
+    ensures { result ≡ option_map (roster_to format) (page_end (rows_of (found_of matches.now))) }
+{
+    let last = page_end(matches)?;
+    Some(View::Users(Roster { last, format }))
+}
+
+fn digest_of(matches: &ArgMatches<'_>) -> Option<View>
+    ensures { result ≡ option_map Digest (number_given (codes "to") (rows_of (found_of matches.now))) }
+{
+    Some(View::Digest(number_given(matches, "to")?))
+}
+
+fn view_of(matches: &ArgMatches<'_>, format: Format, scope: Scope) -> Option<View>
+    ensures { result ≡ view_in (rows_of (found_of matches.now)) format scope }
 {
     if is_on(matches, "rules") {
-        Ok(View::Rules(page_of(matches, format, scope)?))
+        page_of(matches, format, scope)
+    } else if is_on(matches, "users") {
+        roster_of(matches, format)
     } else if is_on(matches, "digest") {
-        Ok(View::Digest(last_of(matches)?))
+        digest_of(matches)
     } else {
-        Ok(View::Entries(excerpt_of(matches, format, scope)?))
+        excerpt_of(matches, format, scope)
     }
 }
 
-fn call_with(
-    alloc: Global,
-    matches: &ArgMatches<'_>,
-    format: Format,
-    scope: Scope,
-) -> Result<Call, Memory>
-    ensures { IfOk result (λ call. call ≡ call_with (rows_of (found_of matches.now)) format scope) }
+fn call_with(alloc: Global, matches: &ArgMatches<'_>, view: View) -> Result<Call, Memory>
+    ensures { IfOk result (λ call. call ≡ call_with (rows_of (found_of matches.now)) view) }
 {
-    let view = view_of(matches, format, scope)?;
     let store = Txt::from_str(alloc, text_of(matches, "store").unwrap_or(""))?;
     Ok(Call { store, view })
+}
+
+// The view that is asked for, of a table or of all.
+fn view_in(alloc: Global, matches: &ArgMatches<'_>, format: Format) -> Result<Option<View>, Memory>
+    ensures { IfOk result (λ view. view ≡ option_and_then
+        (view_in (rows_of (found_of matches.now)) format)
+        (scope_of (first_of (codes "table") (rows_of (found_of matches.now))))) }
+{
+    match scope_of(alloc, matches)? {
+        None => Ok(None),
+        Some(scope) => Ok(view_of(matches, format, scope)),
+    }
 }
 
 fn asked_by(alloc: Global, matches: &ArgMatches<'_>, format: Format) -> Result<Option<Call>, Memory>
@@ -201,9 +246,9 @@ fn asked_by(alloc: Global, matches: &ArgMatches<'_>, format: Format) -> Result<O
     if !format_fits(matches, format) {
         return Ok(None);
     }
-    match scope_of(alloc, matches)? {
+    match view_in(alloc, matches, format)? {
         None => Ok(None),
-        Some(scope) => Ok(Some(call_with(alloc, matches, format, scope)?)),
+        Some(view) => Ok(Some(call_with(alloc, matches, view)?)),
     }
 }
 
@@ -235,20 +280,25 @@ fn asked_in(alloc: Global, words: &[&str]) -> Result<Option<Call>, Memory>
 /// Returns `None` if the command does not take the words:
 ///
 /// - a word is unknown, or an option occurs twice;
-/// - a number is out of its bounds, a table's name is not a name, or a format is not one of the
-///   three;
+/// - a number is out of its bounds; the word after `--from`, `--to` or `--at` is neither a number nor
+///   a moment; a table's name is not a name; or a format is not one of the three;
 /// - `--entry` is given with `--from` or `--to`;
-/// - `--rules` is given with `--from`, `--to`, `--tables` or `--script`;
+/// - `--rules` or `--users` is given with `--from`, `--to`, `--tables` or `--script`;
+/// - `--users` is given with `--rules` or `--table`;
+/// - `--at` is given without `--rules` and `--users`, or with `--entry`;
 /// - `--script` is given with another format than text;
-/// - `--digest` is given with anything but `--store` and `--to`.
+/// - `--digest` is given with anything but `--store` and `--to`, which is then a number.
 ///
 /// ```text
 /// --store clinic.db --entry 18
 /// --store clinic.db --from 10 --to 20 --table patient
+/// --store clinic.db --from 2024-03-04T00:00:00Z --to 2024-03-05T23:59:59Z
 /// --store clinic.db --script
 /// --store clinic.db --tables
 /// --store clinic.db --rules
 /// --store clinic.db --rules --entry 18 --table patient
+/// --store clinic.db --rules --at 2024-03-05T23:59:59Z
+/// --store clinic.db --users
 /// --store clinic.db --rules --format csv
 /// --store clinic.db --digest
 /// --store clinic.db --digest --to 17

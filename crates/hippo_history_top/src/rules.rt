@@ -4,24 +4,27 @@ ghost use Rattle.std.specs.Option.{option_map_or};
 ghost use Rattle.hippo_model.specs.Terms.{History};
 ghost use Rattle.hippo_policy.specs.Books.{BookRepresents};
 ghost use Rattle.hippo_policy.specs.Rulings.{ruling_of, opt_in_of, opt_in_at};
+ghost use Rattle.hippo_history_top.specs.Dating.{count_to, dated_line};
 ghost use Rattle.hippo_history_top.specs.Ruling.{column_rule, column_line, is_ruled, columns_shown, has_table, table_shown, tables_shown, recipients_shown, rules_by_names};
 
 use crate::asking::{Page, Scope};
-use hippo_history_formats::{ColumnRule, append_rule_line};
+use crate::moments::{count_to, moment_at};
+use hippo_history_formats::{ColumnRule, append_rule_line, ruling_number};
 use hippo_model::{RuleAt, Schema};
 use hippo_policy::PolicyBook;
 use hippo_report::Format;
 use hippo_typing_catalog::Catalog;
-use hippo_values::{Memory, Name, Txt};
+use hippo_values::{Memory, Moment, Name, Txt};
 use std::alloc::Global;
 
-// The names and the rules of a history after its first entries, up to a number; which of them are
-// asked for; and how they are shown.
+// The names and the rules of a history after its first entries, up to a number; the moments of the
+// entries; which rules are asked for; and how they are shown.
 #[derive(Clone, Copy)]
 struct Policy<'a> {
     alloc: Global,
     catalog: &'a Catalog,
     book: &'a PolicyBook,
+    moments: &'a [Moment],
     n: u64,
     scope: &'a Scope,
     format: Format,
@@ -59,22 +62,26 @@ fn append_column(
     out: &mut Txt,
 ) -> Result<(), Memory>
     ensures { OnOk result ((history : History) → BookRepresents policy.now.book.now history → out.new
-        ≡ out.old ++ column_line policy.now.format (take policy.now.n history)
+        ≡ out.old ++ column_line (dated_line policy.now.format policy.now.moments.now)
+        (take policy.now.n history)
         group.now.purpose.now group.now.recipient.now group.now.schema.now place) }
 {
+    let ruling = ruling_at(policy, group, place);
     let rule = ColumnRule {
         purpose: group.purpose,
         recipient: group.recipient,
         schema: group.schema,
         place,
-        ruling: ruling_at(policy, group, place),
+        moment: moment_at(policy.moments, ruling_number(&ruling)),
+        ruling,
     };
     append_rule_line(policy.alloc, policy.format, &rule, out)
 }
 
 fn append_columns(policy: &Policy<'_>, group: &Group<'_>, out: &mut Txt) -> Result<(), Memory>
     ensures { OnOk result ((history : History) → BookRepresents policy.now.book.now history → out.new
-        ≡ out.old ++ columns_shown policy.now.format (take policy.now.n history)
+        ≡ out.old ++ columns_shown (dated_line policy.now.format policy.now.moments.now)
+        (take policy.now.n history)
         group.now.purpose.now group.now.recipient.now group.now.schema.now) }
 {
     for place in 0..group.schema.columns.len() {
@@ -129,7 +136,8 @@ fn is_shown(policy: &Policy<'_>, group: &Group<'_>) -> bool
 
 fn append_table(policy: &Policy<'_>, group: &Group<'_>, out: &mut Txt) -> Result<(), Memory>
     ensures { OnOk result ((history : History) → BookRepresents policy.now.book.now history → out.new
-        ≡ out.old ++ table_shown policy.now.format policy.now.scope.now (take policy.now.n history)
+        ≡ out.old ++ table_shown (dated_line policy.now.format policy.now.moments.now)
+        policy.now.scope.now (take policy.now.n history)
         group.now.purpose.now group.now.recipient.now group.now.schema.now) }
 {
     if is_shown(policy, group) {
@@ -148,7 +156,8 @@ fn append_table_at(
     out: &mut Txt,
 ) -> Result<(), Memory>
     ensures { OnOk result ((history : History) → BookRepresents policy.now.book.now history → out.new
-        ≡ out.old ++ option_map_or (λ named. table_shown policy.now.format policy.now.scope.now
+        ≡ out.old ++ option_map_or (λ named. table_shown
+        (dated_line policy.now.format policy.now.moments.now) policy.now.scope.now
         (take policy.now.n history)
         purpose.now recipient.now named.1) (slice_get policy.now.catalog.now.names.tables place)
         []) }
@@ -173,7 +182,8 @@ fn append_tables(
     out: &mut Txt,
 ) -> Result<(), Memory>
     ensures { OnOk result ((history : History) → BookRepresents policy.now.book.now history → out.new
-        ≡ out.old ++ tables_shown policy.now.catalog.now.names policy.now.format
+        ≡ out.old ++ tables_shown policy.now.catalog.now.names
+        (dated_line policy.now.format policy.now.moments.now)
         policy.now.scope.now
         (take policy.now.n history) purpose.now recipient.now) }
 {
@@ -185,7 +195,8 @@ fn append_tables(
 
 fn append_recipients(policy: &Policy<'_>, purpose: &Name, out: &mut Txt) -> Result<(), Memory>
     ensures { OnOk result ((history : History) → BookRepresents policy.now.book.now history → out.new
-        ≡ out.old ++ recipients_shown policy.now.catalog.now.names policy.now.format
+        ≡ out.old ++ recipients_shown policy.now.catalog.now.names
+        (dated_line policy.now.format policy.now.moments.now)
         policy.now.scope.now (take policy.now.n history) purpose.now) }
 {
     for recipient in policy.catalog.recipients() {
@@ -196,7 +207,8 @@ fn append_recipients(policy: &Policy<'_>, purpose: &Name, out: &mut Txt) -> Resu
 
 fn append_purposes(policy: &Policy<'_>, out: &mut Txt) -> Result<(), Memory>
     ensures { OnOk result ((history : History) → BookRepresents policy.now.book.now history → out.new
-        ≡ out.old ++ rules_by_names policy.now.catalog.now.names policy.now.format
+        ≡ out.old ++ rules_by_names policy.now.catalog.now.names
+        (dated_line policy.now.format policy.now.moments.now)
         policy.now.scope.now
         (take policy.now.n history)) }
 {
@@ -206,23 +218,26 @@ fn append_purposes(policy: &Policy<'_>, out: &mut Txt) -> Result<(), Memory>
     Ok(())
 }
 
-/// Appends the rules that are in force after this many entries, for the tables that are asked for.
+/// Appends the rules that are in force after the entries up to a bound, for the tables that are asked
+/// for. `moments` are those of all entries.
 pub(crate) fn append_rules(
     alloc: Global,
     catalog: &Catalog,
     book: &PolicyBook,
+    moments: &[Moment],
     page: &Page,
     out: &mut Txt,
 ) -> Result<(), Memory>
     ensures { OnOk result ((history : History) → BookRepresents book.now history → out.new
-        ≡ out.old ++ rules_by_names catalog.now.names page.now.format page.now.scope
-        (take page.now.last history)) }
+        ≡ out.old ++ rules_by_names catalog.now.names (dated_line page.now.format moments.now)
+        page.now.scope (take (count_to page.now.last moments.now) history)) }
 {
     let policy = Policy {
         alloc,
         catalog,
         book,
-        n: page.last,
+        moments,
+        n: count_to(page.last, moments),
         scope: &page.scope,
         format: page.format,
     };

@@ -1,10 +1,11 @@
 //! Which entries are asked for.
-ghost use Rattle.std.specs.Prelude.{◌≡◌, ◌&&◌, nat_le, bytes_eq, IfOk};
+ghost use Rattle.std.specs.Prelude.{◌≡◌, ◌&&◌, bytes_eq, IfOk};
 ghost use Rattle.std.specs.List.{list_any};
 ghost use Rattle.hippo_model.specs.Validity.{creates_table};
+ghost use Rattle.hippo_history_top.specs.Dating.{is_from, is_to};
 ghost use Rattle.hippo_history_top.specs.Showing.{is_question_of, speaks_of, is_in_scope, is_of, is_in_excerpt};
 
-use crate::asking::{Acts, Excerpt, Scope};
+use crate::asking::{Acts, Bound, Excerpt, Scope};
 use hippo_model::{Act, Entry, Query};
 use hippo_typing::read_meaning;
 use hippo_typing_catalog::Catalog;
@@ -60,10 +61,23 @@ fn is_within(alloc: Global, catalog: &Catalog, scope: &Scope, act: &Act) -> Resu
     }
 }
 
-fn is_between(excerpt: &Excerpt, number: u64) -> bool
-    ensures { result ≡ (nat_le excerpt.now.first number && nat_le number excerpt.now.last) }
+fn is_from(bound: Bound, entry: &Entry) -> bool
+    ensures { result ≡ is_from bound entry.now }
 {
-    excerpt.first <= number && number <= excerpt.last
+    match bound {
+        Bound::Number(number) => number <= entry.seq,
+        Bound::At(moment) => moment.seconds() <= entry.moment.seconds(),
+    }
+}
+
+/// Whether an entry is at a bound or before it.
+pub(crate) fn is_to(bound: Bound, entry: &Entry) -> bool
+    ensures { result ≡ is_to bound entry.now }
+{
+    match bound {
+        Bound::Number(number) => entry.seq <= number,
+        Bound::At(moment) => entry.moment.seconds() <= moment.seconds(),
+    }
 }
 
 fn creates_table(act: &Act) -> bool
@@ -86,11 +100,10 @@ fn is_of(acts: Acts, act: &Act) -> bool
 
 // Whether an entry is asked for, regardless of its table.
 fn is_counted(excerpt: &Excerpt, entry: &Entry) -> bool
-    ensures { result ≡ (nat_le excerpt.now.first entry.now.seq
-        && nat_le entry.now.seq excerpt.now.last
+    ensures { result ≡ (is_from excerpt.now.first entry.now && is_to excerpt.now.last entry.now
         && is_of excerpt.now.acts entry.now.act) }
 {
-    is_between(excerpt, entry.seq) && is_of(excerpt.acts, &entry.act)
+    is_from(excerpt.first, entry) && is_to(excerpt.last, entry) && is_of(excerpt.acts, &entry.act)
 }
 
 /// Whether an entry is asked for.

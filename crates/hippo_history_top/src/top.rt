@@ -8,6 +8,10 @@ ghost use Rattle.hippo_keeper.specs.Selecting.{stored_versions};
 ghost use Rattle.hippo_keeper.specs.Telling.{TellsOnceStarted};
 ghost use Rattle.hippo_policy.specs.Books.{BookRepresents};
 ghost use Rattle.hippo_program_args.specs.Starting.{IsIdle, SaysDamaged, BeginsDamaged};
+ghost use Rattle.hippo_replay.specs.declared.state.State.{State as LoadedState};
+ghost use Rattle.hippo_history_top.specs.declared.asking.View.TheVariants.{Rules as RulesView, Users as UsersView};
+ghost use Rattle.hippo_history_top.specs.Dating.{count_to, dated_line};
+ghost use Rattle.hippo_history_top.specs.Granting.{grants_shown};
 ghost use Rattle.hippo_history_top.specs.Ruling.{rules_by_names};
 ghost use Rattle.hippo_history_top.specs.Progress.{IsReadable, WritesPage, ShowsLoaded};
 ghost use Rattle.hippo_history_top.specs.declared.asking.Call.{Call as AskedCall};
@@ -15,34 +19,119 @@ ghost use Rattle.hippo_history_top.specs.CommandLine.{asked_of};
 ghost use Rattle.hippo_program_args.specs.Endings.{ending_as_call};
 ghost use Rattle.hippo_history_top.specs.Endings.{showing_statuses, ends_showing};
 ghost use Rattle.hippo_history_top.specs.Outcomes.{ShowsView, BeginsView, Ends};
-ghost use Rattle.hippo_history_top.specs.Saying.{showing_usage, CountsWrites};
+ghost use Rattle.hippo_history_top.specs.Saying.{showing_usage, missing_line, Writes, CountsWrites};
 
-use crate::asking::{Page, View};
+use crate::asking::{Page, Roster, View};
 use crate::digest::show_digest;
-use crate::endings::served_or;
-use crate::printing::{refuse, write_lines};
+use crate::endings::{ending_of, served_or};
+use crate::gathering::gather_all;
+use crate::moments::Moments;
+use crate::printing::{miss, refuse, write_lines};
 use crate::reading::asked_of;
 use crate::rules::append_rules;
 use crate::showing::{Guide, show_all};
+use crate::stores::Stores;
+use crate::users::{Grants, append_grants};
+use hippo_history_formats::Grant;
 use hippo_io::Sink;
 use hippo_keeper::{CountedKeeper, Steps};
 use hippo_program_args::{Ending, stop};
 use hippo_replay::{State, load};
-use hippo_values::{Memory, Txt};
+use hippo_report::Format;
+use hippo_values::{Memory, Moment, Txt};
 use std::alloc::Global;
 use std::sync::ledger::Ledger;
 
 // Writes the rules that are in force.
-fn write_rules<K: Sink>(alloc: Global, page: &Page, state: &State, sink: &mut K) -> Option<Ending>
+fn write_rules<K: Sink>(
+    alloc: Global,
+    page: &Page,
+    state: &State,
+    moments: &[Moment],
+    sink: &mut K,
+) -> Option<Ending>
     ensures writes { WritesPage (BookRepresents state.now.book)
-        (λ history. rules_by_names state.now.catalog.names page.now.format page.now.scope
-        (take page.now.last history)) result
+        (λ history. rules_by_names state.now.catalog.names
+        (dated_line page.now.format moments.now) page.now.scope
+        (take (count_to page.now.last moments.now) history)) result
         (K.written sink.old) (K.written sink.new) (K.faults sink.old) (K.faults sink.new) }
 {
     let mut lines = Txt::new(alloc);
-    match append_rules(alloc, &state.catalog, &state.book, page, &mut lines) {
+    match append_rules(
+        alloc,
+        &state.catalog,
+        &state.book,
+        moments,
+        page,
+        &mut lines,
+    ) {
         Ok(()) => write_lines(sink, lines.as_str()),
         Err(Memory) => Some(Ending::NoMemory),
+    }
+}
+
+// Shows the rules that are in force, and drops the state.
+fn show_rules<K: Sink, P: CountedKeeper<L>, L: Ledger>(
+    alloc: Global,
+    page: &Page,
+    state: State,
+    sink: &mut K,
+    keeper: &mut P,
+    steps: &mut Steps<L>,
+) -> Ending
+    requires readable { IsReadable (P.state keeper.old) }
+    ensures shows { ShowsLoaded state (RulesView page.now) result
+        (P.state keeper.old) (P.state keeper.new) (K.written sink.old) (K.written sink.new)
+        (K.faults sink.old) (K.faults sink.new) steps.old steps.new }
+{
+    let mut moments = Moments::new(alloc);
+    match gather_all(alloc, &mut moments, keeper, steps) {
+        Ok(()) => {
+            let cut = write_rules(alloc, page, &state, moments.as_slice(), sink);
+            state.close();
+            served_or(cut)
+        }
+        Err(fault) => {
+            state.close();
+            ending_of(fault)
+        }
+    }
+}
+
+// Writes the authorizations that are in force.
+fn write_grants<K: Sink>(
+    alloc: Global,
+    format: Format,
+    grants: &[Grant],
+    sink: &mut K,
+) -> Option<Ending>
+    ensures writes { Writes (grants_shown format grants.now) result
+        (K.written sink.old) (K.written sink.new) (K.faults sink.old) (K.faults sink.new) }
+{
+    let mut lines = Txt::new(alloc);
+    match append_grants(alloc, format, grants, &mut lines) {
+        Ok(()) => write_lines(sink, lines.as_str()),
+        Err(Memory) => Some(Ending::NoMemory),
+    }
+}
+
+// Shows the authorizations that are in force.
+fn show_users<K: Sink, P: CountedKeeper<L>, L: Ledger>(
+    alloc: Global,
+    roster: &Roster,
+    sink: &mut K,
+    keeper: &mut P,
+    steps: &mut Steps<L>,
+) -> Ending
+    requires readable { IsReadable (P.state keeper.old) }
+    ensures shows { (state : LoadedState) → ShowsLoaded state (UsersView roster.now) result
+        (P.state keeper.old) (P.state keeper.new) (K.written sink.old) (K.written sink.new)
+        (K.faults sink.old) (K.faults sink.new) steps.old steps.new }
+{
+    let mut grants = Grants::new(alloc, roster.last);
+    match gather_all(alloc, &mut grants, keeper, steps) {
+        Ok(()) => served_or(write_grants(alloc, roster.format, grants.as_slice(), sink)),
+        Err(fault) => ending_of(fault),
     }
 }
 
@@ -71,11 +160,10 @@ fn show_view<K: Sink, P: CountedKeeper<L>, L: Ledger>(
             state.close();
             ending
         }
-        View::Rules(page) => {
-            let cut = write_rules(alloc, page, &state, sink);
-            let ending = served_or(cut);
+        View::Rules(page) => show_rules(alloc, page, state, sink, keeper, steps),
+        View::Users(roster) => {
             state.close();
-            ending
+            show_users(alloc, roster, sink, keeper, steps)
         }
         View::Digest(last) => {
             state.close();
@@ -114,13 +202,15 @@ fn show<K: Sink, P: CountedKeeper<L>, L: Ledger>(
 }
 
 /// Runs the program and returns its exit status. `words` are the words after the program's name,
-/// and `sink` is its output. `keeper` stores a history, in the store that the words name; it must
-/// be neither started nor spent nor closed.
+/// `stores` tells whether there is a store with a name, and `sink` is the program's output.
+/// `keeper` stores a history, in the store that the words name; it must be neither started nor
+/// spent nor closed.
 ///
 /// - 0: exactly what is asked for of the stored history is written (`shown`).
 /// - 2: the words ask for nothing (see [`asked_of`]). The usage line is written. If it cannot be
 ///   written, the status is 5 or 7 instead.
-/// - 3: the keeper failed. What is written is a prefix of what is asked for.
+/// - 3: the keeper failed, and what is written is a prefix of what is asked for. Or there is no
+///   store with this name: a line says so, and the keeper is not started.
 /// - 5: the sink failed. What was written is a prefix of what was to be written.
 /// - 6: the stored entries are those of no valid history. The line `damaged PLACE` is written.
 ///   PLACE, counted from 1, is that of the first entry for which the entries up to and including it
@@ -129,11 +219,13 @@ fn show<K: Sink, P: CountedKeeper<L>, L: Ledger>(
 ///
 /// Once the keeper has started, the stored entries stay as they were found. They are read in
 /// pieces. The first read loads the history, so that damage is reported before anything else is
-/// written. If entries or their digest are asked for, a second read shows them. The rules in force
-/// are computed in memory from what was loaded, and then written.
-pub fn history_top<K: Sink, P: CountedKeeper<L>, L: Ledger>(
+/// written. A second read shows the entries or computes their digest. For the rules in force it finds
+/// the moments of their entries, and for the authorizations in force the entries that gave them; both
+/// are put together in memory and then written.
+pub fn history_top<D: Stores, K: Sink, P: CountedKeeper<L>, L: Ledger>(
     alloc: Global,
     words: &[Txt],
+    stores: &D,
     sink: &mut K,
     keeper: &mut P,
     steps: &mut Steps<L>,
@@ -154,22 +246,32 @@ pub fn history_top<K: Sink, P: CountedKeeper<L>, L: Ledger>(
     ensures tells { (call : AskedCall) → asked_of words.now ≡ Some call →
         TellsOnceStarted call.store (P.state keeper.old) (P.state keeper.new) }
 
+    // If there is no store with this name, a line says so, and no store is made.
+    ensures looked { (call : AskedCall) → asked_of words.now ≡ Some call → result ≢ 7
+        → D.Answers stores.now call.store true
+        ⊎ (D.Answers stores.now call.store false × ((result ≡ 3) ⊎ (result ≡ 5))
+        × (keeper.new ≡ keeper.old) × (steps.new ≡ steps.old)) }
+
     // What is shown, if the store's contents are known, of a history that a start may find.
     ensures shown { (call : AskedCall) → asked_of words.now ≡ Some call → result ≡ 0
         → (P.state keeper.new).tells →
         ShowsView call.view call.store
         (P.state keeper.old) (P.state keeper.new) (K.written sink.old) (K.written sink.new) }
     ensures keeper_cut { (call : AskedCall) → asked_of words.now ≡ Some call → result ≡ 3
-        → (P.state keeper.new).tells →
+        → (D.Answers stores.now call.store false × (keeper.new ≡ keeper.old)
+        × Appends (K.written sink.old) (K.written sink.new) missing_line)
+        ⊎ ((P.state keeper.new).tells →
         ((sink.new ≡ sink.old) × IsIdle call.store (P.state keeper.old) (P.state keeper.new))
         ⊎ BeginsView call.view call.store
-        (P.state keeper.old) (P.state keeper.new) (K.written sink.old) (K.written sink.new) }
+        (P.state keeper.old) (P.state keeper.new) (K.written sink.old) (K.written sink.new)) }
     ensures write_cut { (call : AskedCall) → asked_of words.now ≡ Some call → result ≡ 5
-        → (P.state keeper.new).tells →
+        → (D.Answers stores.now call.store false × (keeper.new ≡ keeper.old)
+        × AppendsFront (K.written sink.old) (K.written sink.new) missing_line)
+        ⊎ ((P.state keeper.new).tells →
         BeginsDamaged call.store (P.state keeper.old) (P.state keeper.new) (K.written sink.old)
         (K.written sink.new)
         ⊎ BeginsView call.view call.store
-        (P.state keeper.old) (P.state keeper.new) (K.written sink.old) (K.written sink.new) }
+        (P.state keeper.old) (P.state keeper.new) (K.written sink.old) (K.written sink.new)) }
     ensures damaged { (call : AskedCall) → asked_of words.now ≡ Some call → result ≡ 6
         → (P.state keeper.new).tells →
         SaysDamaged call.store (P.state keeper.old) (P.state keeper.new) (K.written sink.old)
@@ -188,9 +290,10 @@ pub fn history_top<K: Sink, P: CountedKeeper<L>, L: Ledger>(
         steps.new ≤ steps.old + 2 * stored_versions (P.state keeper.new).kept }
 
     // A status for a fault is returned only when the count of the object that failed rose.
-    ensures keeper_fault { result ≡ 3 → HasRisen (P.state keeper.old).faults
-        (P.state keeper.new).faults
-        × ((P.state keeper.new).spent ≡ true) }
+    ensures keeper_fault { result ≡ 3 → ((call : AskedCall) → asked_of words.now ≡ Some call
+        → D.Answers stores.now call.store false)
+        ⊎ (HasRisen (P.state keeper.old).faults (P.state keeper.new).faults
+        × ((P.state keeper.new).spent ≡ true)) }
     ensures write_fault { result ≡ 5 → HasRisen (K.faults sink.old) (K.faults sink.new) }
     ensures unfailed_keeper { result ≢ 3
         → ((P.state keeper.new).faults ≡ (P.state keeper.old).faults)
@@ -204,5 +307,8 @@ pub fn history_top<K: Sink, P: CountedKeeper<L>, L: Ledger>(
         return refuse(sink).status();
     };
     let store = call.store.as_str();
+    if !stores.has(store) {
+        return miss(sink).status();
+    }
     show(alloc, store, &call.view, sink, keeper, steps).status()
 }

@@ -1,10 +1,8 @@
--- Entries are shown, or the rules, or a digest.
+-- Entries are shown, or the rules or authorizations in force, or a digest.
 use Rattle.std.proofs.Common.{sym, subst}
 use Rattle.hippo_history_top.specs.declared.asking.View.{View}
-use Rattle.hippo_history_top.specs.declared.asking.View.TheVariants.{Rules}
-use Rattle.hippo_program_args.specs.declared.endings.Ending.{Ending}
 use Rattle.hippo_history_top.specs.Progress.{ShowsLoaded}
-use Rattle.hippo_history_top.proofs.PageLemmas.{loaded_entries, loaded_rules}
+use Rattle.hippo_history_top.proofs.PageLemmas.{loaded_entries}
 use Rattle.hippo_history_top.proofs.top.show_view.Goals as goal
 
 pub returns-in-Entries : goal.returns-in-Entries
@@ -18,20 +16,22 @@ returns-in-Entries g c = record {
 }
 
 pub returns-in-Rules : goal.returns-in-Rules
-returns-in-Rules g c =
-    let keeper = g.P.Keeper.state c.args.keeper.now in
-    record {
-      shows = subst
-          (λ (view : View). ShowsLoaded c.args.state view c.served_or-ending.result keeper keeper
-          (g.K.Sink.written c.args.sink.now) (g.K.Sink.written c.write_rules-cut.new.sink) (g.K.Sink.faults c.args.sink.now) (g.K.Sink.faults c.write_rules-cut.new.sink) c.args.steps.now c.args.steps.now)
-          (sym c.in-Rules.is)
-          (subst
-          (λ (ending : Ending). ShowsLoaded c.args.state (Rules c.in-Rules.page) ending keeper keeper
-          (g.K.Sink.written c.args.sink.now) (g.K.Sink.written c.write_rules-cut.new.sink) (g.K.Sink.faults c.args.sink.now) (g.K.Sink.faults c.write_rules-cut.new.sink) c.args.steps.now c.args.steps.now)
-          (sym c.served_or-ending.ensures)
-          (loaded_rules c.args.state (g.K.Sink.written c.args.sink.now) (g.K.Sink.written c.write_rules-cut.new.sink) (g.K.Sink.faults c.args.sink.now) (g.K.Sink.faults c.write_rules-cut.new.sink)
-          c.in-Rules.page keeper c.requires.readable.ready c.args.steps.now c.write_rules-cut.result c.write_rules-cut.ensures.writes));
-    }
+returns-in-Rules g c = record {
+  shows = subst
+      (λ (view : View). ShowsLoaded c.args.state view c.show_rules.result (g.P.Keeper.state c.args.keeper.now) (g.P.Keeper.state c.show_rules.new.keeper)
+      (g.K.Sink.written c.args.sink.now) (g.K.Sink.written c.show_rules.new.sink) (g.K.Sink.faults c.args.sink.now) (g.K.Sink.faults c.show_rules.new.sink) c.args.steps.now c.show_rules.new.steps)
+      (sym c.in-Rules.is)
+      c.show_rules.ensures.shows;
+}
+
+pub returns-in-Users : goal.returns-in-Users
+returns-in-Users g c = record {
+  shows = subst
+      (λ (view : View). ShowsLoaded c.args.state view c.show_users.result (g.P.Keeper.state c.args.keeper.now) (g.P.Keeper.state c.show_users.new.keeper)
+      (g.K.Sink.written c.args.sink.now) (g.K.Sink.written c.show_users.new.sink) (g.K.Sink.faults c.args.sink.now) (g.K.Sink.faults c.show_users.new.sink) c.args.steps.now c.show_users.new.steps)
+      (sym c.in-Users.is)
+      (c.show_users.ensures.shows c.args.state);
+}
 
 pub returns-in-Digest : goal.returns-in-Digest
 returns-in-Digest g c = record {

@@ -1,0 +1,10 @@
+-- The first part of the stored list is read and covered; each piece brings a higher number.
+use Rattle.std.proofs.Common.{◌-◌, ◌^◌}
+use Rattle.hippo_history_top.specs.Gathering.{IsGathering}
+use Rattle.hippo_history_top.proofs.gathering.gather_all.Given as goal
+
+abbrev pub invariant-loop-number : goal.invariant-loop-number
+invariant-loop-number g l = IsGathering (g.G.Gather.Covers l.initial.gathered) (g.G.Gather.Covers l.gathered) (g.P.Keeper.state l.initial.keeper) (g.P.Keeper.state l.keeper) l.number l.initial.steps l.steps
+
+abbrev pub decreases-loop-number : goal.decreases-loop-number
+decreases-loop-number g l = 2 ^ 64 - l.number
