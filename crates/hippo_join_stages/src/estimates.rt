@@ -37,7 +37,10 @@ impl<'a, C: ChoiceView> Side<'a, C> {
     /// Whether the condition and the chosen rows fix a table's whole key, so that at most one of
     /// its rows can follow.
     pub fn finds_one(&self, table: usize, slots: &[Option<usize>]) -> bool {
-        table < self.sets.len() && self.tells_key(table, slots)
+        if table >= self.sets.len() {
+            return false;
+        }
+        self.tells_key(table, slots)
     }
 
     // The number of a table's rows that literals find: by key, or by the access path that finds the

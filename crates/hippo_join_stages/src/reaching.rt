@@ -203,7 +203,8 @@ impl<'a, C: ChoiceView> Side<'a, C> {
         if before == 1 {
             return Ok(true);
         }
-        Ok(before < self.count_found(alloc, table)? / cost)
+        let found = self.count_found(alloc, table)?;
+        Ok(before.saturating_mul(cost) < found)
     }
 
     // The same, but none is looked up if all stages are to be materialised.
