@@ -6,9 +6,8 @@ ghost use Rattle.hippo_audit_common.specs.Commons.{common_tables, place_in};
 
 use hippo_join::order_after;
 use hippo_join_stages::{Side, Stage, push_if};
-use hippo_model::{ChoiceView, Sizes};
-use hippo_tables_rows::Sets;
-use hippo_values::{Memory, Name, Sequence};
+use hippo_model::ChoiceView;
+use hippo_values::{Memory, Name};
 use std::alloc::Global;
 
 /// The places of the common tables in the query's FROM list and in the audit's. Both lists are in
@@ -89,14 +88,6 @@ fn tables_from(alloc: Global, first: &[usize], tables: usize) -> Result<Vec<usiz
     Ok(order)
 }
 
-fn sizes_of(alloc: Global, sets: &Sets<'_>) -> Result<Sizes, Memory> {
-    let mut sizes = Sequence::new(alloc);
-    for table in 0..sets.len() {
-        sizes.push(sets.get(table).len() as u64)?;
-    }
-    Ok(sizes)
-}
-
 /// Returns an order in which to join a side's tables, with `first` at the front.
 pub fn order_from<C: ChoiceView>(
     alloc: Global,
@@ -110,9 +101,8 @@ pub fn order_from<C: ChoiceView>(
         (table : Place) → table < length side.now.sets.now → Contains order.items table) }
     ensures front { IfOk result (λ order. take (length first.now) order.items ≡ first.now) }
 {
-    let sizes = sizes_of(alloc, side.sets)?;
     let tables = tables_from(alloc, first, side.sets.len())?;
-    order_after(alloc, side.query, &sizes, first, &tables[first.len()..])
+    order_after(alloc, side, first, &tables[first.len()..])
 }
 
 /// Returns the first `count` stages of both sides, in pairs.

@@ -12,7 +12,6 @@ ghost use Rattle.hippo_eval_answer.specs.Lines.{IsSaid};
 
 use crate::inquiry::Inquiry;
 use crate::lines::{Lines, lines_of, printed_lines};
-use crate::sizes::sizes_of;
 use crate::standpoint::Standpoint;
 use hippo_distinct::distinct;
 use hippo_eval::{ANSWER_LIMIT, EvalFault};
@@ -92,8 +91,7 @@ fn formed(alloc: Global, form: &Form, inquiry: &Inquiry<'_>) -> Result<Answer, E
 {
     match form {
         Form::Plain => {
-            let sizes = sizes_of(alloc, &inquiry.sets)?;
-            let plan = plan(alloc, inquiry.query, &sizes)?;
+            let plan = plan(alloc, inquiry.query, &inquiry.sets, &inquiry.choices)?;
             run(alloc, &plan, inquiry.query, &inquiry.sets, &inquiry.choices)
         }
         Form::Distinct => distinct(alloc, inquiry.query, &inquiry.sets, &inquiry.choices),

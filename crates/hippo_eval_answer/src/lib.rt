@@ -4,7 +4,6 @@
 mod answers;
 mod inquiry;
 mod lines;
-mod sizes;
 mod standpoint;
 mod visits;
 

@@ -6,7 +6,6 @@ ghost use Rattle.hippo_eval.specs.Walks.{rows_of};
 ghost use Rattle.hippo_join_stages.specs.Visiting.{counting};
 ghost use Rattle.hippo_join.specs.Plans.{KeptWithin};
 
-use crate::sizes::sizes_of;
 use hippo_eval::{ANSWER_LIMIT, EvalFault, Visitor};
 use hippo_join::{plan, visit_planned, walk_joined};
 use hippo_model::{ChoiceView, Masked};
@@ -32,7 +31,6 @@ pub(crate) fn visit_rows<C: ChoiceView, V: Visitor>(
         walk_joined(alloc, query, sets, choices, visitor, state)?;
         return Ok(());
     }
-    let sizes = sizes_of(alloc, sets)?;
-    let plan = plan(alloc, query, &sizes)?;
+    let plan = plan(alloc, query, sets, choices)?;
     visit_planned(alloc, &plan, query, sets, choices, visitor, state)
 }

@@ -1,13 +1,14 @@
 //! Join planning: the order in which the tables of a query are joined.
-ghost use Rattle.std.specs.Prelude.{◌≡◌, ◌<◌, ◌++◌, IfOk, IsTrue, length, take};
+ghost use Rattle.std.specs.Prelude.{◌≡◌, ◌<◌, ◌++◌, IfOk, IfSome, IsTrue, length, take};
 ghost use Rattle.std.specs.List.{range_with_len};
 ghost use Rattle.std.specs.List.Sorted.{IsPermutation};
 ghost use Rattle.hippo_join.specs.Plans.{IsPlanOf};
 
-use hippo_join_lookups::{column_of, find_tie, outer_parts};
-use hippo_join_stages::open_slots;
-use hippo_model::{CondOf, Expr, Masked, Plan, Sizes};
-use hippo_values::{CompareOp, Memory, Sequence};
+use crate::joins::{blank_row, side_of};
+use hippo_join_stages::{Side, open_slots};
+use hippo_model::{ChoiceView, Masked, Plan};
+use hippo_tables_rows::Sets;
+use hippo_values::{Memory, Sequence};
 use std::alloc::Global;
 
 pub(crate) fn tables_below(alloc: Global, count: usize) -> Result<Vec<usize>, Memory>
@@ -20,55 +21,64 @@ pub(crate) fn tables_below(alloc: Global, count: usize) -> Result<Vec<usize>, Me
     Ok(tables)
 }
 
-// Whether an expression shows a column of a table, and the other expression is a literal.
-fn is_fixed(expr: &Expr, other: &Expr, table: usize) -> bool {
-    match column_of(expr) {
-        Some(column) => column.table == table && matches!(other, Expr::Literal(_)),
-        None => false,
-    }
-}
-
-fn fixes(part: &CondOf<Expr>, table: usize) -> bool {
-    match part {
-        CondOf::Compare {
-            op: CompareOp::Eq,
-            left,
-            right,
-        } => is_fixed(left, right, table) || is_fixed(right, left, table),
-        _ => false,
-    }
-}
-
-// The rank of a table in the join order, lower first: tied tables before others, then tables with a
-// column fixed by a literal, then small tables.
-fn lateness(
-    query: &Masked,
-    sizes: &Sizes,
-    table: usize,
+// The place, in `left`, of a table of which at most one row can follow the chosen rows, because
+// they and literals fix its whole key.
+fn place_of_one<C: ChoiceView>(
+    side: &Side<'_, C>,
+    left: &[usize],
     slots: &[Option<usize>],
-) -> (bool, bool, u64) {
-    let parts = outer_parts(&query.cond);
-    let tie = find_tie(parts, table, slots);
-    let is_fixed = parts.iter().any(|part| fixes(part, table));
-    let size = sizes.as_slice().get(table).copied().unwrap_or(0);
-    (tie.is_none(), !is_fixed, size)
+) -> Option<usize>
+    ensures { IfSome result (λ place. place < length left.now) }
+{
+    for place in 0..left.len() {
+        if side.finds_one(left[place], slots) {
+            return Some(place);
+        }
+    }
+    None
+}
+
+// The place, in `left`, of the table that adds the fewest rows to each combination of the chosen
+// rows. An earlier table gives way only to one that adds less than half as many, since combinations
+// that are found in the order of FROM need not be sorted.
+fn place_of_fewest<C: ChoiceView>(
+    alloc: Global,
+    side: &Side<'_, C>,
+    left: &[usize],
+    slots: &[Option<usize>],
+) -> Result<usize, Memory>
+    requires { 0 < length left.now }
+    ensures { IfOk result (λ place. place < length left.now) }
+{
+    let mut best = 0;
+    let mut least = side.count_after(alloc, left[0], slots)?;
+    for place in 1..left.len() {
+        let count = side.count_after(alloc, left[place], slots)?;
+        if count < least / 2 {
+            best = place;
+            least = count;
+        }
+    }
+    Ok(best)
 }
 
 // The place, in `left`, of the table to join next.
-fn next_place(query: &Masked, sizes: &Sizes, left: &[usize], slots: &[Option<usize>]) -> usize
+fn next_place<C: ChoiceView>(
+    alloc: Global,
+    side: &Side<'_, C>,
+    left: &[usize],
+    slots: &[Option<usize>],
+) -> Result<usize, Memory>
     requires { 0 < length left.now }
-    ensures { result < length left.now }
+    ensures { IfOk result (λ place. place < length left.now) }
 {
-    let mut best = 0;
-    let mut least = lateness(query, sizes, left[0], slots);
-    for place in 1..left.len() {
-        let late = lateness(query, sizes, left[place], slots);
-        if late < least {
-            best = place;
-            least = late;
-        }
+    if left.len() == 1 {
+        return Ok(0);
     }
-    best
+    match place_of_one(side, left, slots) {
+        Some(place) => Ok(place),
+        None => place_of_fewest(alloc, side, left, slots),
+    }
 }
 
 fn mark(slots: &mut [Option<usize>], table: usize) {
@@ -78,13 +88,12 @@ fn mark(slots: &mut [Option<usize>], table: usize) {
 }
 
 /// Orders the tables of a query for a join: first those in `first`, then those in `others`. The
-/// next table is one that an equality ties to a table before it, if there is one, otherwise one
-/// with a column that an equality fixes to a literal. Of several such tables, the smallest comes
-/// first.
-pub fn order_after(
+/// next table is one of which at most one row can follow the rows chosen before, if there is one,
+/// otherwise the one that adds the fewest rows to each combination of them, by the counts of
+/// `Side::count_after`.
+pub fn order_after<C: ChoiceView>(
     alloc: Global,
-    query: &Masked,
-    sizes: &Sizes,
+    side: &Side<'_, C>,
     first: &[usize],
     others: &[usize],
 ) -> Result<Vec<usize>, Memory>
@@ -92,14 +101,14 @@ pub fn order_after(
         order.items) }
     ensures front { IfOk result (λ order. take (length first.now) order.items ≡ first.now) }
 {
-    let mut slots = open_slots(alloc, query.tables.len())?;
+    let mut slots = open_slots(alloc, side.sets.len())?;
     for table in first {
         mark(&mut slots, *table);
     }
     let mut order = Vec::from_slice(alloc, first)?;
     let mut left = Vec::from_slice(alloc, others)?;
     while !left.is_empty() {
-        let place = next_place(query, sizes, &left, &slots);
+        let place = next_place(alloc, side, &left, &slots)?;
         let table = left.remove(place);
         mark(&mut slots, table);
         order.push(table)?;
@@ -107,15 +116,22 @@ pub fn order_after(
     Ok(order)
 }
 
-/// A join order for the tables of a query, each once, given their sizes. The next table is one that
-/// an equality ties to a table before it, if there is one, otherwise one with a column that an
-/// equality fixes to a literal. Of several such tables, the smallest comes first. `run` gives the
-/// same answer for every order; this one is chosen to be fast.
-pub fn plan(alloc: Global, query: &Masked, sizes: &Sizes) -> Result<Plan, Memory>
+/// A join order for the tables of a query, each once, over their rows. The next table is one of
+/// which at most one row can follow the rows chosen before, if there is one, otherwise the one that
+/// adds the fewest rows. `run` gives the same answer for every order; this one is chosen to be
+/// fast.
+pub fn plan<C: ChoiceView>(
+    alloc: Global,
+    query: &Masked,
+    sets: &Sets<'_>,
+    choices: &C,
+) -> Result<Plan, Memory>
     ensures { IfOk result (λ plan. IsPlanOf query.now plan) }
 {
+    let blank = blank_row(alloc)?;
+    let side = side_of(query, sets, choices, &blank);
     let tables = tables_below(alloc, query.tables.len())?;
-    let order = order_after(alloc, query, sizes, &[], &tables)?;
+    let order = order_after(alloc, &side, &[], &tables)?;
     Ok(Plan {
         order: Sequence::from_vec(order),
     })

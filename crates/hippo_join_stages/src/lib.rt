@@ -1,6 +1,7 @@
 //! One side of a join, and the candidate rows of its tables given the rows already chosen.
 #![tactic(auto)]
 
+mod estimates;
 mod following;
 mod keys;
 mod ranges;

@@ -20,6 +20,17 @@ use hippo_values::{Memory, Value};
 use std::alloc::Global;
 use std::cell::Cell;
 
+// How many rows can be tested and sorted in the time of a lookup: by a whole key, by its first
+// values, and by a column with an order.
+const BY_KEY: usize = 3;
+
+const BY_FRONT: usize = 8;
+
+const BY_ORDER: usize = 16;
+
+// One in so many rows is taken to have the value of a tie.
+const SHARE: usize = 16;
+
 // At or below this many rows, the rows of an only table are tested during the scan, not before.
 const FEW_ROWS: usize = 64;
 
@@ -39,6 +50,11 @@ pub fn push_if(test: bool, places: &mut Vec<usize>, place: usize) -> Result<(), 
         places.push(place)?;
     }
     Ok(())
+}
+
+// About how many of some rows have the value of their tie.
+fn rows_beside(rows: usize) -> usize {
+    rows.div_ceil(SHARE)
 }
 
 impl<'a, C: ChoiceView> Side<'a, C> {
@@ -118,7 +134,7 @@ impl<'a, C: ChoiceView> Side<'a, C> {
     }
 
     // Whether the condition and the chosen rows fix a table's whole key.
-    fn tells_key(&self, table: usize, slots: &[Option<usize>]) -> bool
+    pub(crate) fn tells_key(&self, table: usize, slots: &[Option<usize>]) -> bool
         requires { table < length self.now.sets.now }
     {
         for column in self.sets.get(table).key().as_slice() {
@@ -133,8 +149,8 @@ impl<'a, C: ChoiceView> Side<'a, C> {
         true
     }
 
-    // Whether the chosen rows, not literals, fix the first value of a table's key.
-    fn tells_front(&self, table: usize, slots: &[Option<usize>]) -> bool
+    // Whether the chosen rows fix the first value of a table's key.
+    fn tells_front(&self, table: usize, slots: &[Option<usize>], once: bool) -> bool
         requires { table < length self.now.sets.now }
     {
         let Some(column) = self.sets.get(table).key().as_slice().first() else {
@@ -144,18 +160,70 @@ impl<'a, C: ChoiceView> Side<'a, C> {
             table,
             column: *column,
         };
-        self.is_joined(column, slots)
+        self.is_joined(column, slots, once)
+    }
+
+    // How many rows can be tested and sorted in the time of a lookup by key or by a column that the
+    // table is ordered by, if the chosen rows fix it.
+    fn lookup_cost(&self, table: usize, slots: &[Option<usize>], once: bool) -> Option<usize>
+        requires { table < length self.now.sets.now }
+    {
+        if self.tells_key(table, slots) {
+            Some(BY_KEY)
+        } else if self.tells_front(table, slots, once) {
+            Some(BY_FRONT)
+        } else if self.is_found(table, slots, once) {
+            Some(BY_ORDER)
+        } else {
+            None
+        }
     }
 
     // Whether a table's rows are looked up for each combination of chosen rows; `before` is about
-    // the number of these combinations. The only table of a query is always looked up, once.
-    fn is_searched(&self, table: usize, slots: &[Option<usize>], before: usize) -> bool
+    // the number of these combinations. The only table of a query is always looked up, once. The
+    // rows of another one are looked up if that costs less than testing and sorting the rows that
+    // literals find, or if there is no combination to look them up for.
+    fn is_searched(
+        &self,
+        alloc: Global,
+        table: usize,
+        slots: &[Option<usize>],
+        before: usize,
+    ) -> Result<bool, Memory>
         requires { table < length self.now.sets.now }
     {
-        self.sets.len() == 1
-            || self.tells_key(table, slots)
-            || self.tells_front(table, slots)
-            || self.finds_few(table, slots, before)
+        if self.sets.len() == 1 || before == 0 {
+            return Ok(true);
+        }
+        let is_tied = find_tie(outer_parts(&self.query.cond), table, slots).is_some();
+        let once = before == 1 && is_tied;
+        let Some(cost) = self.lookup_cost(table, slots, once) else {
+            return Ok(false);
+        };
+        if before == 1 {
+            return Ok(true);
+        }
+        let found = self.count_found(alloc, table)?;
+        Ok(before.saturating_mul(cost) < found)
+    }
+
+    // The same, but none is looked up if all stages are to be materialised.
+    fn looks_up(
+        &self,
+        alloc: Global,
+        table: usize,
+        slots: &[Option<usize>],
+        before: usize,
+        lists: bool,
+    ) -> Result<bool, Memory>
+        requires { table < length self.now.sets.now }
+        ensures { IfOk result (λ searched. lists ≡ true → searched ≡ false) }
+    {
+        if lists {
+            return Ok(false);
+        }
+        let is_searched = self.is_searched(alloc, table, slots, before)?;
+        Ok(is_searched)
     }
 
     // Whether all rows of a table are scanned without being materialised. That is so when all of
@@ -210,7 +278,7 @@ impl<'a, C: ChoiceView> Side<'a, C> {
             table,
             tie: Some(tie),
             is_searched: false,
-            rows,
+            rows: rows_beside(rows),
             places: index.places,
             values: index.values,
             suffices: self.suffices(table, &Some(tie)),
@@ -236,7 +304,7 @@ impl<'a, C: ChoiceView> Side<'a, C> {
         ensures listed { IfOk result (λ stage. lists ≡ true → stage.is_searched ≡ false) }
         ensures table { IfOk result (λ stage. stage.table ≡ table) }
     {
-        if !lists && self.is_searched(table, slots, before) {
+        if self.looks_up(alloc, table, slots, before, lists)? {
             let tests = self.tests_at(alloc, table, slots, &[])?;
             let suffices = self.suffices(table, &None);
             return Ok(Stage::searched(alloc, table, 1, suffices, tests));

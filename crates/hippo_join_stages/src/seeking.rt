@@ -23,7 +23,7 @@ pub(crate) const WALKED: usize = 4;
 // An access path to a table's rows: the bounds of a column, or the list of values that restricts
 // it.
 #[derive(Clone, Copy)]
-enum Access {
+pub(crate) enum Access {
     Bounds(usize),
     List(usize),
 }
@@ -45,7 +45,7 @@ fn column_in(expr: &Expr, table: usize) -> Option<usize> {
 }
 
 // A column of a table that an equality compares.
-fn compared_column(part: &CondOf<Expr>, table: usize) -> Option<usize> {
+pub(crate) fn compared_column(part: &CondOf<Expr>, table: usize) -> Option<usize> {
     match part {
         CondOf::Compare {
             op: CompareOp::Eq,
@@ -57,7 +57,7 @@ fn compared_column(part: &CondOf<Expr>, table: usize) -> Option<usize> {
 }
 
 // The access path to a table's rows that a part of a condition gives.
-fn access_by(part: &CondOf<Expr>, table: usize) -> Option<Access> {
+pub(crate) fn access_by(part: &CondOf<Expr>, table: usize) -> Option<Access> {
     match part {
         CondOf::Compare { left, right, .. } => {
             let column = column_in(left, table).or(column_in(right, table));
@@ -70,40 +70,33 @@ fn access_by(part: &CondOf<Expr>, table: usize) -> Option<Access> {
 }
 
 impl<'a, C: ChoiceView> Side<'a, C> {
-    // Whether the chosen rows, not literals, fix the value of a column.
-    pub(crate) fn is_joined(&self, column: Ref, slots: &[Option<usize>]) -> bool {
-        self.told_value(column, slots).is_some() && self.told_value(column, &[]).is_none()
+    // Whether the chosen rows fix the value of a column. Unless its table is looked up `once`,
+    // literals do not count, since the rows that they find are the same each time.
+    pub(crate) fn is_joined(&self, column: Ref, slots: &[Option<usize>], once: bool) -> bool {
+        self.told_value(column, slots).is_some()
+            && (once || self.told_value(column, &[]).is_none())
     }
 
-    // Whether the chosen rows, not literals, fix the value of a column that its table is ordered
-    // by.
-    fn finds_by(&self, column: Ref, slots: &[Option<usize>]) -> bool
+    // Whether the chosen rows fix the value of a column that its table is ordered by.
+    fn finds_by(&self, column: Ref, slots: &[Option<usize>], once: bool) -> bool
         requires { column.table < length self.now.sets.now }
     {
-        self.sets.get(column.table).is_ordered_by(column.column) && self.is_joined(column, slots)
+        self.sets.get(column.table).is_ordered_by(column.column)
+            && self.is_joined(column, slots, once)
     }
 
-    // Whether the chosen rows, not literals, fix the value of some column that a table is ordered
-    // by.
-    fn is_found(&self, table: usize, slots: &[Option<usize>]) -> bool
+    // Whether the chosen rows fix the value of some column that a table is ordered by.
+    pub(crate) fn is_found(&self, table: usize, slots: &[Option<usize>], once: bool) -> bool
         requires { table < length self.now.sets.now }
     {
         for part in outer_parts(&self.query.cond) {
             if let Some(column) = compared_column(part, table) {
-                if self.finds_by(Ref { table, column }, slots) {
+                if self.finds_by(Ref { table, column }, slots, once) {
                     return true;
                 }
             }
         }
         false
-    }
-
-    // Whether lookups through an order of the table, by values of the chosen rows, cost less than
-    // materialising the table. `before` is about the number of combinations of chosen rows.
-    pub(crate) fn finds_few(&self, table: usize, slots: &[Option<usize>], before: usize) -> bool
-        requires { table < length self.now.sets.now }
-    {
-        before < self.sets.get(table).len() / FEW && self.is_found(table, slots)
     }
 
     // The number of a table's rows within the bounds of a column, if it has bounds and the table is
@@ -132,7 +125,7 @@ impl<'a, C: ChoiceView> Side<'a, C> {
     }
 
     // The number of a table's rows that an access path finds, if it can be used.
-    fn count_by(&self, table: usize, access: Access, slots: &[Option<usize>]) -> Option<usize>
+    pub(crate) fn count_by(&self, table: usize, access: Access, slots: &[Option<usize>]) -> Option<usize>
         requires { table < length self.now.sets.now }
     {
         match access {
