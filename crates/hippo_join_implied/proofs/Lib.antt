@@ -1,0 +1,5 @@
+pub mod ListLemmas
+pub mod LoopLemmas
+pub mod MovedLemmas
+pub mod ImpliedLemmas
+mod ImpliedExamples
