@@ -1,12 +1,16 @@
 -- The steps of the loops over equalities, and over the parts of a condition.
-use Rattle.std.proofs.Common.{◌≡◌, ℕ, zero, suc, ◌+◌, ◌-◌, ◌<◌, ◌≤◌, Bool, true, false, List, [], ◌∷◌, ◌++◌, map, drop, take, filter, length, refl, sym, ap, ◌∙◌, append_assoc, length-append, Option, Some, None, arith}
+use Rattle.std.proofs.Common.{◌≡◌, ℕ, zero, suc, ◌+◌, ◌-◌, ◌<◌, ◌≤◌, Bool, true, false, List, [], ◌∷◌, ◌++◌, map, drop, get_or, length, refl, sym, ap, ◌∙◌, append_assoc, length-append, add-one, Option, Some, None, arith}
 use Rattle.std.specs.Prelude.{◌||◌, slice_get}
 use Rattle.std.specs.Option.{option_map_or, option_or}
-use Rattle.std.proofs.lemmas.List.{append-nil}
+use Rattle.std.proofs.Math.Seq.{drop-cons}
+use Rattle.std.proofs.lemmas.List.{append-nil, drop_all, nil_from_length}
 use Rattle.hippo_model.specs.declared.query.CondOf.{CondOf}
 use Rattle.hippo_model.specs.declared.query.Expr.{Expr}
-use Rattle.hippo_join_implied.specs.Implied.{equality_limit, implied_limit, show_same, is_equality, compared_expr, moved_part, shows_reached, beyond_by, next_beyond, all_beyond, implied_by, implied_from, implied_parts}
+use Rattle.hippo_join_implied.specs.Implied.{implied_limit, show_same, compared_expr, moved_part, shows_reached, beyond_by, next_beyond, all_beyond, implied_by, implied_from}
 use Rattle.hippo_join_implied.proofs.ListLemmas.{member-then}
+
+part-then : (parts : List (CondOf Expr)) (place : ℕ) (part : CondOf Expr) → place < length parts → part ≡ get_or parts place part → drop place parts ≡ part ∷ drop (place + 1) parts
+part-then parts place part within at = rw (add-one) (drop-cons parts place part within ∙ ap (λ first. first ∷ drop (suc place) parts) (sym at))
 
 -- ---- one expression or equality more
 module _ (reached : List Expr) (place : ℕ) (own expr : Expr) (at : slice_get reached place ≡ Some own) where
@@ -42,29 +46,27 @@ module _ (made_of : Expr → CondOf Expr) (equalities : List (CondOf Expr)) (rea
       ∙ sym ((λ i. implied ++ those_of (count i) reached)
       ∙ (λ i. implied ++ map made_of (option_map_or (λ (expr : Expr). expr ∷ all_beyond fewer equalities (reached ++ expr ∷ [])) (next i) [])))
 
-  none-next : (most : ℕ) → next_beyond equalities reached ≡ None → all_beyond most equalities reached ≡ []
-  none-next zero none = refl
-  none-next (suc most) none = ap (λ (next : Option Expr). option_map_or (λ (expr : Expr). expr ∷ all_beyond most equalities (reached ++ expr ∷ [])) next []) none
-
-  pub led-end : (whole : List (CondOf Expr)) → next_beyond equalities reached ≡ None → implied ++ those_of (implied_limit - length implied) reached ≡ whole → implied ≡ whole
-  led-end whole none told =
-      sym (append-nil implied) ∙ sym (ap (λ (others : List Expr). implied ++ map made_of others) (none-next (implied_limit - length implied) none)) ∙ told
-
-  pub led-full : (whole : List (CondOf Expr)) → implied_limit ≤ length implied → implied ++ those_of (implied_limit - length implied) reached ≡ whole → implied ≡ whole
-  led-full whole full told =
-      let nothing : implied_limit - length implied ≡ 0 = omega (arith, full) in
-      sym (append-nil implied) ∙ sym (ap (λ (most : ℕ). implied ++ those_of most reached) nothing) ∙ told
-
 -- ---- one part more
-pub implied-more : (equalities implied : List (CondOf Expr)) (part : CondOf Expr) (later made : List (CondOf Expr)) → made ≡ implied ++ implied_by (implied_limit - length implied) equalities part
-    → made ++ implied_from (implied_limit - length made) equalities later ≡ implied ++ implied_from (implied_limit - length implied) equalities (part ∷ later)
-implied-more equalities implied part later made is =
-    let own : List (CondOf Expr) = implied_by (implied_limit - length implied) equalities part in
-    let longer : length (implied ++ own) ≡ length implied + length own = length-append implied own in
-    let count : implied_limit - length (implied ++ own) ≡ (implied_limit - length implied) - length own = omega (arith, longer) in
-    (λ i. is i ++ implied_from (implied_limit - length (is i)) equalities later)
-    ∙ append_assoc implied own (implied_from (implied_limit - length (implied ++ own)) equalities later)
-    ∙ (λ i. implied ++ (own ++ implied_from (count i) equalities later))
+module _ (equalities parts : List (CondOf Expr)) (place : ℕ) (implied : List (CondOf Expr)) where
+  abbrev those_from : List (CondOf Expr) → List (CondOf Expr) → List (CondOf Expr)
+  those_from found later = found ++ implied_from (implied_limit - length found) equalities later
+
+  one-more : (part : CondOf Expr) (later made : List (CondOf Expr)) → made ≡ implied ++ implied_by (implied_limit - length implied) equalities part → those_from made later ≡ those_from implied (part ∷ later)
+  one-more part later made is =
+      let own : List (CondOf Expr) = implied_by (implied_limit - length implied) equalities part in
+      let longer : length (implied ++ own) ≡ length implied + length own = length-append implied own in
+      let count : implied_limit - length (implied ++ own) ≡ (implied_limit - length implied) - length own = omega (arith, longer) in
+      ap (λ (found : List (CondOf Expr)). those_from found later) is
+      ∙ append_assoc implied own (implied_from (implied_limit - length (implied ++ own)) equalities later)
+      ∙ (λ i. implied ++ (own ++ implied_from (count i) equalities later))
+
+  pub implied-more : (part : CondOf Expr) (made : List (CondOf Expr)) → place < length parts → part ≡ get_or parts place part → made ≡ implied ++ implied_by (implied_limit - length implied) equalities part
+      → those_from made (drop (place + 1) parts) ≡ those_from implied (drop place parts)
+  implied-more part made within at is =
+      one-more part (drop (place + 1) parts) made is ∙ ap (those_from implied) (sym (part-then parts place part within at))
+
+  pub implied-all : (whole : List (CondOf Expr)) → length parts ≤ place → those_from implied (drop place parts) ≡ whole → implied ≡ whole
+  implied-all whole beyond told = sym (append-nil implied) ∙ sym (ap (those_from implied) (drop_all place parts beyond)) ∙ told
 
 -- ---- without an equality
 none-beyond : (most : ℕ) (reached : List Expr) → all_beyond most [] reached ≡ []
@@ -80,6 +82,6 @@ none-from most [] = refl
 none-from most (part ∷ parts) =
     ap (λ (own : List (CondOf Expr)). own ++ implied_from (most - length own) [] parts) (none-by most part (compared_expr part)) ∙ none-from (most - 0) parts
 
-pub none-implied : (equalities parts : List (CondOf Expr)) → equalities ≡ take equality_limit (filter is_equality parts) → equalities ≡ [] → [] ≡ implied_parts parts
-none-implied equalities parts is none =
-    sym (none-from implied_limit parts) ∙ ap (λ (found : List (CondOf Expr)). implied_from implied_limit found parts) (sym none ∙ is)
+pub none-implied : (equalities parts : List (CondOf Expr)) → length equalities ≡ 0 → [] ≡ implied_from implied_limit equalities parts
+none-implied equalities parts none =
+    sym (none-from implied_limit parts) ∙ ap (λ (found : List (CondOf Expr)). implied_from implied_limit found parts) (sym (nil_from_length equalities none))

@@ -1,6 +1,6 @@
 //! Adds to a condition what its equalities of columns imply.
 ghost use Rattle.std.specs.Prelude.{◌≡◌, ◌-◌, ◌++◌, [], ◌∷◌, IfOk, OnOk, length, map};
-ghost use Rattle.hippo_join_implied.specs.Implied.{implied_limit, moved_part, all_beyond, implied_by, implied_parts, with_implied};
+ghost use Rattle.hippo_join_implied.specs.Implied.{implied_limit, moved_part, all_beyond, implied_by, implied_from, implied_parts, with_implied};
 
 use crate::equalities::{equalities, next_beyond};
 use crate::literals::compared_expr;
@@ -54,18 +54,31 @@ fn add_by(
     }
 }
 
+// What equalities imply by some parts.
+fn implied_from(
+    alloc: Global,
+    equalities: &Lent<'_, CondOf<Expr>>,
+    parts: &[CondOf<Expr>],
+) -> Result<Conditions, Memory>
+    ensures { IfOk result (λ implied. implied
+        ≡ implied_from implied_limit equalities.now parts.now) }
+{
+    let mut implied = Sequence::new(alloc);
+    if equalities.len() == 0 {
+        return Ok(implied);
+    }
+    for part in parts {
+        add_by(alloc, equalities, part, &mut implied)?;
+    }
+    Ok(implied)
+}
+
 // What the parts of a condition imply.
 fn implied_parts(alloc: Global, parts: &[CondOf<Expr>]) -> Result<Conditions, Memory>
     ensures { IfOk result (λ implied. implied ≡ implied_parts parts.now) }
 {
-    let mut implied = Sequence::new(alloc);
     let equalities = equalities(alloc, parts)?;
-    if equalities.is_empty() {
-        return Ok(implied);
-    }
-    for part in parts {
-        add_by(alloc, &equalities, part, &mut implied)?;
-    }
+    let implied = implied_from(alloc, &equalities, parts)?;
     Ok(implied)
 }
 
