@@ -9,6 +9,7 @@ use Rattle.hippo_model.specs.Terms.{History, Meaning, ShownRow}
 use Rattle.hippo_model.specs.Validity.{is_valid}
 use Rattle.hippo_model.specs.Verdicts.{context_of}
 use Rattle.hippo_policy.specs.Books as books
+use Rattle.hippo_join_implied.specs.Implied.{query_with_implied}
 use Rattle.hippo_rewrite.specs.Rewriting.{rewritten_query}
 use Rattle.hippo_rewrite.specs.RewritingLaws.{rules_at}
 use Rattle.hippo_tables.specs.Standing as standing
@@ -28,13 +29,15 @@ rules_from standpoint history names =
     rules_at (take standpoint.count history) (context_of standpoint.pair.now standpoint.moment)
     (standing.schemas_at history names)
 
--- a query whose tables exist, and the query with the rules in force written into it
+-- a query whose tables exist, and the query with the rules in force written into it and with what
+-- its condition then implies
 pub record IsMasked (standpoint : Standpoint) (query : Query) (masked : Masked) : Type 0 where
   pub kept : standing.AreKeptTables standpoint.tables.now query.tables
   pub tables : masked.tables ≡ query.tables
   pub rules : (history : History) → books.BookRepresents standpoint.book.now history
       → standing.TablesStandFor standpoint.tables.now history
-      → masked ≡ rewritten_query (rules_from standpoint history query.tables) query
+      → masked
+      ≡ query_with_implied (rewritten_query (rules_from standpoint history query.tables) query)
 
 -- the answer to a query
 abbrev pub answer_from : Standpoint → History → Query → List ShownRow

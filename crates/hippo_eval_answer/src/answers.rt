@@ -7,6 +7,8 @@ ghost use Rattle.hippo_policy.specs.Books.{BookRepresents};
 ghost use Rattle.hippo_tables.specs.Standing.{TablesStandFor, AreKeptTables};
 ghost use Rattle.hippo_eval.specs.Walks.{rows_of};
 ghost use Rattle.hippo_eval.specs.Answering.{IsAnswered};
+ghost use Rattle.hippo_join_implied.specs.Implied.{query_with_implied};
+ghost use Rattle.hippo_rewrite.specs.Rewriting.{rewritten_query};
 ghost use Rattle.hippo_eval_answer.specs.States.{AreStateOf, IsMasked, answer_from, rules_from};
 ghost use Rattle.hippo_eval_answer.specs.Lines.{IsSaid};
 
@@ -17,6 +19,7 @@ use hippo_distinct::distinct;
 use hippo_eval::{ANSWER_LIMIT, EvalFault};
 use hippo_groups::grouped;
 use hippo_join::{plan, run};
+use hippo_join_implied::add_implied;
 use hippo_model::{Answer, ChoiceView, Form, Masked, Names, Query, RulesInForce};
 use hippo_policy::ChoicesAt;
 use hippo_rewrite::rewrite;
@@ -48,13 +51,23 @@ fn rules_of(
     )
 }
 
-// The query with the rules in force written into it.
+// The query with the rules written into it, and with what its condition then implies.
+fn rewritten(alloc: Global, query: &Query, rules: &RulesInForce) -> Result<Masked, Memory>
+    ensures { IfOk result (λ made. made
+        ≡ query_with_implied (rewritten_query rules.now query.now)) }
+{
+    let mut masked = rewrite(alloc, query, rules)?;
+    add_implied(alloc, &mut masked.cond)?;
+    Ok(masked)
+}
+
+// The query with the rules in force written into it, and with what its condition then implies.
 fn masked_query(alloc: Global, standpoint: &Standpoint<'_>, query: &Query) -> Result<Masked, Memory>
     requires { AreKeptTables standpoint.now.tables.now query.now.tables }
     ensures { IfOk result (IsMasked standpoint.now query.now) }
 {
     let rules = rules_of(alloc, standpoint, &query.tables)?;
-    rewrite(alloc, query, &rules)
+    rewritten(alloc, query, &rules)
 }
 
 // The masked query with the rows and the choices that it is answered over, at a standpoint.
