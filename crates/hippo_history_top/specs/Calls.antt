@@ -47,8 +47,8 @@ BeginsMissing answers call before after =
 
 -- what was answered about the store: that it is there; or that it is not, and then the keeper is not
 -- started
-abbrev pub HasLooked : StoreAnswers → AskedCall → ℕ → HostState → HostState → Type 0
-HasLooked answers call status before after =
+abbrev pub HasAskedStores : StoreAnswers → AskedCall → ℕ → HostState → HostState → Type 0
+HasAskedStores answers call status before after =
     answers call.store true
     ⊎ (answers call.store false × ((status ≡ 3) ⊎ (status ≡ 5))
     × IsSameKeeper before.keeper after.keeper × (after.steps ≡ before.steps))
@@ -56,7 +56,7 @@ HasLooked answers call status before after =
 -- what each status means for what is asked for
 pub record ShowsAsked (answers : StoreAnswers) (call : AskedCall) (status : ℕ)
     (before after : HostState) : Type 0 where
-  pub looked : status ≢ 7 → HasLooked answers call status before after
+  pub looked : status ≢ 7 → HasAskedStores answers call status before after
   pub tells : TellsOnceStarted call.store before.keeper after.keeper
   pub shown : status ≡ 0 → after.keeper.tells → ShowsWhole call before after
   pub keeper_cut : status ≡ 3 → SaysMissing answers call before after
