@@ -1,26 +1,23 @@
 -- What a condition implies is true where the condition is.
 use Rattle.std.proofs.Common.{◌≡◌, ℕ, zero, suc, ◌-◌, ◌⊎◌, inl, inr, Bool, true, false, cond, ◌&&◌, List, [], ◌∷◌, ◌++◌, map, filter, take, length, refl, sym, ap, subst, ◌∙◌, Option, Some, None}
-use Rattle.std.specs.Prelude.{if◌then◌else◌}
-use Rattle.std.specs.List.{list_all, AllByRecursion}
+use Rattle.std.specs.List.{list_all}
 use Rattle.std.specs.Option.{option_map_or, option_or}
-use Rattle.std.proofs.lemmas.Bool.{and_parts, and_from, false≢true}
+use Rattle.std.proofs.lemmas.Bool.{and_parts, and_from}
 use Rattle.std.proofs.lemmas.List.Folds.{list_all-append}
 use Rattle.hippo_values.specs.declared.values.Value.{Value}
-use Rattle.hippo_model.specs.declared.born_row.BornRow.{BornRow}
-use Rattle.hippo_model.specs.declared.query.CondOf.{CondOf, CondOf-F, roll-CondOf, ind-CondOf, out-CondOf, out-roll-CondOf}
+use Rattle.hippo_model.specs.declared.query.CondOf.{CondOf, CondOf-F, roll-CondOf, ind-CondOf, out-roll-CondOf}
 use Rattle.hippo_model.specs.declared.query.CondOf.TheOpen.{All, Any, Not, Compare, Between, Among, Missing}
 use Rattle.hippo_model.specs.declared.query.CondOf.TheVariants as conditions
 use Rattle.hippo_model.specs.declared.query.Expr.{Expr}
-use Rattle.hippo_model.specs.declared.query.Masked.{Masked}
-use Rattle.hippo_model.specs.Terms.{Combination, ShownRow}
+use Rattle.hippo_model.specs.Terms.{Combination}
 use Rattle.hippo_model.specs.Answers.{product}
-use Rattle.hippo_model.specs.Conditions.{is_null, outer_parts}
-use Rattle.hippo_model.specs.Masking.{Choices, is_guarded, masked_passes, masked_items}
+use Rattle.hippo_model.specs.Conditions.{is_null}
+use Rattle.hippo_model.specs.Masking.{Choices, is_guarded, masked_items}
 use Rattle.hippo_model.specs.MaskedTruth.{masked_value}
 use Rattle.hippo_model.proofs.HeldParts.{parts-hold}
 use Rattle.hippo_model.proofs.OuterParts.{outer_parts-All}
 use Rattle.hippo_join_lookups.specs.Ties.{holds}
-use Rattle.hippo_join_implied.specs.Implied.{equality_limit, implied_limit, is_equality, compared_expr, moved_part, beyond_by, next_beyond, all_beyond, implied_by, implied_from, implied_parts, with_implied, query_with_implied}
+use Rattle.hippo_join_implied.specs.Implied.{equality_limit, implied_limit, is_equality, compared_expr, moved_part, beyond_by, next_beyond, all_beyond, implied_by, implied_from, implied_parts, with_implied}
 use Rattle.hippo_join_implied.specs.ImpliedLaws.{ImpliedHolds, ImpliedAnswers}
 use Rattle.hippo_join_implied.proofs.MovedLemmas.{Have, Moves, moves, leads}
 
@@ -63,8 +60,8 @@ module _ (choices : Choices) (rows : Combination) where
   next-value common known reached have (part ∷ equalities) held other e =
       let both = and_parts (holds choices rows part) (are_held equalities) held in
       elim (option-first (beyond_by reached part) (next_beyond equalities reached) other e) [
-      | inl here ↦ leads choices rows common reached other part here known have both.0
-      | inr later ↦ next-value common known reached have equalities both.1 other later
+        | inl here ↦ leads choices rows common reached other part here known have both.0
+        | inr later ↦ next-value common known reached have equalities both.1 other later
       ]
 
   have-more : (common : Value) (reached : List Expr) (other : Expr) → Have choices rows common reached → value other ≡ common → Have choices rows common (reached ++ other ∷ [])

@@ -3,7 +3,7 @@
 use Rattle.std.proofs.Common.{◌≡◌, ◌⊎◌, inl, inr, Bool, true, false, not, ◌&&◌, ◌||◌, List, [], ◌∷◌, map, refl, sym, ap, subst, ◌∙◌, Option, Some, None}
 use Rattle.std.specs.Prelude.{◌==◌, is_some, if◌then◌else◌}
 use Rattle.std.specs.Bool.{then_some}
-use Rattle.std.specs.List.{list_all, list_any, AllByRecursion}
+use Rattle.std.specs.List.{list_all, AllByRecursion}
 use Rattle.std.specs.Option.{option_map_or}
 use Rattle.std.proofs.lemmas.Bool.{and_parts, eqb-true, false≢true}
 use Rattle.hippo_values.specs.declared.values.Value.{Value}
@@ -13,7 +13,7 @@ use Rattle.hippo_values.specs.declared.truths.Truth.TheVariants.{False, Unknown,
 use Rattle.hippo_values.specs.declared.truths.CompareOp.{CompareOp}
 use Rattle.hippo_values.specs.declared.truths.CompareOp.TheVariants.{Eq, Ne, Lt, Le, Gt, Ge}
 use Rattle.hippo_values.specs.Truths.{truth_and, truth_or, comparison}
-use Rattle.hippo_model.specs.declared.query.CondOf.{CondOf, CondOf-F, roll-CondOf, ind-CondOf, out-CondOf, out-roll-CondOf}
+use Rattle.hippo_model.specs.declared.query.CondOf.{CondOf, CondOf-F, roll-CondOf, ind-CondOf, out-roll-CondOf}
 use Rattle.hippo_model.specs.declared.query.CondOf.TheOpen.{All, Any, Not, Compare, Between, Among, Missing}
 use Rattle.hippo_model.specs.declared.query.CondOf.TheVariants as conditions
 use Rattle.hippo_model.specs.declared.query.Expr.{Expr}
@@ -21,8 +21,8 @@ use Rattle.hippo_model.specs.declared.query.Expr.TheVariants.{Keep, Null, Aged, 
 use Rattle.hippo_model.specs.declared.query.Ref.{Ref}
 use Rattle.hippo_model.specs.Terms.{Combination}
 use Rattle.hippo_model.specs.Conditions.{greatest, is_true, is_null, changed_layer}
-use Rattle.hippo_model.specs.Masking.{Choices, raw_value}
-use Rattle.hippo_model.specs.MaskedTruth.{masked_value, masked_truth}
+use Rattle.hippo_model.specs.Masking.{Choices}
+use Rattle.hippo_model.specs.MaskedTruth.{masked_value}
 use Rattle.hippo_model.proofs.Truths.{truth-Compare, truth-Between, truth-Among}
 use Rattle.hippo_model.proofs.FoldedConditions.{folded-Compare, folded-Between, folded-Among}
 use Rattle.hippo_join_lookups.specs.Lists.{is_literal}
@@ -193,11 +193,11 @@ module _ (choices : Choices) (rows : Combination) where
       record {
         known = sym (ap (λ (expr : Expr). is_null (value expr)) is.1) ∙ (not-null Ge (value operand) (value low) above).0;
         moved = λ other same.
-          ap (holds choices rows) (folded-Between (changed_layer (moved_expr from other)) operand low high)
-          ∙ ap is_true (truth-Between value (moved_expr from other operand) (moved_expr from other low) (moved_expr from other high)
-          ∙ (λ i. truth_and (comparison Ge (own-kept from other operand same is.1 i) (literal-kept from other low ends.0 i)) (comparison Le (own-kept from other operand same is.1 i) (literal-kept from other high ends.1 i)))
-          ∙ sym (truth-Between value operand low high))
-          ∙ held;
+            ap (holds choices rows) (folded-Between (changed_layer (moved_expr from other)) operand low high)
+            ∙ ap is_true (truth-Between value (moved_expr from other operand) (moved_expr from other low) (moved_expr from other high)
+            ∙ (λ i. truth_and (comparison Ge (own-kept from other operand same is.1 i) (literal-kept from other low ends.0 i)) (comparison Le (own-kept from other operand same is.1 i) (literal-kept from other high ends.1 i)))
+            ∙ sym (truth-Between value operand low high))
+            ∙ held;
       }
 
   abbrev equal_to : Value → List Expr → List Truth
@@ -229,12 +229,12 @@ module _ (choices : Choices) (rows : Combination) where
       record {
         known = sym (ap (λ (expr : Expr). is_null (value expr)) is.1) ∙ listed-known (value operand) list (sym (ap is_true (truth-Among value operand list)) ∙ held);
         moved = λ other same.
-          ap (holds choices rows) (folded-Among (changed_layer (moved_expr from other)) operand list)
-          ∙ ap is_true (truth-Among value (moved_expr from other operand) (map (moved_expr from other) list)
-          ∙ ap (λ (own : Value). greatest (equal_to own (map (moved_expr from other) list))) (own-kept from other operand same is.1)
-          ∙ list-kept from other (value operand) list is.0
-          ∙ sym (truth-Among value operand list))
-          ∙ held;
+            ap (holds choices rows) (folded-Among (changed_layer (moved_expr from other)) operand list)
+            ∙ ap is_true (truth-Among value (moved_expr from other operand) (map (moved_expr from other) list)
+            ∙ ap (λ (own : Value). greatest (equal_to own (map (moved_expr from other) list))) (own-kept from other operand same is.1)
+            ∙ list-kept from other (value operand) list is.0
+            ∙ sym (truth-Among value operand list))
+            ∙ held;
       }
 
   -- a part of any kind

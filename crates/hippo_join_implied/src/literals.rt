@@ -24,7 +24,11 @@ fn are_literals(list: &[Expr]) -> bool
 fn column_if(test: bool, expr: &Expr) -> Option<&Expr>
     ensures { option_copied result ≡ column_if test expr.now }
 {
-    if test && column_of(expr).is_some() { Some(expr) } else { None }
+    if test && column_of(expr).is_some() {
+        Some(expr)
+    } else {
+        None
+    }
 }
 
 fn beside_literal<'a>(left: &'a Expr, right: &'a Expr) -> Option<&'a Expr>
