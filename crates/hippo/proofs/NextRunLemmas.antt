@@ -16,12 +16,12 @@ module _ {D : Type 0} {g : Ghosts D} (keeper : KeeperState) where
   pub holds_history : (given : Option (FileStore D g)) → IfSome given (LeavesSurvivors keeper.survives)
       → IfSome given (λ it. (image : Image) → MayBeLeft it image → (history : History) → KeepsHistory history keeper → FilesHold history image)
   holds_history None leaves = tt
-  holds_history (Some it) leaves = λ image may history keeps name store some found. ∥∥₁_map (keeps.alone store) (leaves.only image may name store some found)
+  holds_history (Some it) leaves = λ image may history keeps name store some found. ∥∥₁_map (leaves.only image may name store some found) (keeps.alone store)
 
   pub holds_either : (given : Option (FileStore D g)) → IfSome given (LeavesSurvivors keeper.survives)
       → IfSome given (λ it. (image : Image) → MayBeLeft it image → (history longer : History) → KeepsEither history longer keeper → FilesHoldEither history longer image)
   holds_either None leaves = tt
-  holds_either (Some it) leaves = λ image may history longer keeps name store some found. ∥∥₁_map (keeps.alone store) (leaves.only image may name store some found)
+  holds_either (Some it) leaves = λ image may history longer keeps name store some found. ∥∥₁_map (leaves.only image may name store some found) (keeps.alone store)
 
   pub holds_some : (given : Option (FileStore D g)) → IfSome given (LeavesSurvivors keeper.survives)
       → IfSome given (λ it. IsClean (view it) → ∥ ((image : Image) × MayBeLeft it image) ∥₁)

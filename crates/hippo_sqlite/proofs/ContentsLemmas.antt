@@ -45,8 +45,8 @@ ran_badly text params old new fault (Ok count) ran is = absurd cc
 ran_badly text params old new fault (Err e) ran is = executes_left text params old new e ran
 
 -- a connection on a clean disk tells, if what it opened started well
-must_tell : {S : Type 0} {g : store.Ghosts S} {now told opened : Held S} → MustTell (connection_contents g now told opened)
-must_tell = record { over_disk = λ clean own. (clean.0, clean.1, own); over_memory = λ none. absurd none }
+must_tell : {S : Type 0} (g : store.Ghosts S) (now told opened : Held S) → MustTell (connection_contents g now told opened)
+must_tell g now told opened = record { over_disk = λ clean own. (clean.0, clean.1, own); over_memory = λ none. absurd none }
 
 module _ {S : Type 0} (g : store.Ghosts S)
     (settled : (s : S) (trees : Trees) → IsTrue (g.view s).is_open → g.recovers s trees → trees ≡ (g.view s).committed)
@@ -112,7 +112,7 @@ module _ {S : Type 0} (g : store.Ghosts S)
             clean = λ t. (early t.0, was_open t.0 t.1);
             own = λ own. own;
             memory = λ memory. memory;
-            must = must_tell;
+            must = must_tell g new new opened;
           };
           longer = λ t. (made t.0 t.1 t.2).1;
           only = λ t. only_kept t.1 (made t.0 t.1 t.2).0;
@@ -144,7 +144,7 @@ module _ {S : Type 0} (g : store.Ghosts S)
         clean = λ t. (early t.0, t.1);
         own = λ own. own;
         memory = λ memory. memory;
-        must = must_tell;
+        must = must_tell g new old opened;
       };
       longer = tt;
       only = tt;
@@ -169,7 +169,7 @@ module _ {S : Type 0} (g : store.Ghosts S)
             clean = λ t. (early t.0, was_open t.0 t.1);
             own = λ own. own;
             memory = λ memory. memory;
-            must = must_tell;
+            must = must_tell g new new opened;
           };
           longer = tt;
           only = tt;
@@ -219,7 +219,7 @@ module _ {S : Type 0} (g : store.Ghosts S)
             clean = λ t. (looks_early t.0, look_open t.0 t.1);
             own = λ own. own;
             memory = λ memory. memory;
-            must = must_tell;
+            must = must_tell g new new opened;
           };
           same = λ t. same_committed (look_open t.0 t.1) t.1 (made t.0 t.1 t.2).0 (made t.0 t.1 t.2).1;
         }
@@ -232,7 +232,7 @@ module _ {S : Type 0} (g : store.Ghosts S)
         clean = λ t. (looks_early t.0, t.1);
         own = λ own. own;
         memory = λ memory. memory;
-        must = must_tell;
+        must = must_tell g new old opened;
       };
       same = λ t.
           let it = rests (looks_early t.0) t.1 t.2 in
@@ -262,7 +262,7 @@ module _ {S : Type 0} (g : store.Ghosts S)
         empty = λ t none. (made t.0 t.2).1 ∙ ap (λ schema. entries_of schema (state g opened).committed.trees) (ap (λ (db : Database). db.schema) (sym (opens (falls t.0)).0.clean) ∙ none);
         clean_disk = λ t. falls t.0;
         own = λ t held. let o = opens (falls t.0) in starts_well (state g opened).now (state g opened).committed o.0.clean (o.1 o.0.is_open).1 held;
-        must = must_tell;
+        must = must_tell g new new opened;
       }
 
 pub ok_weaker : {A E : Type 0} (result : Result A E) (P Q : A → Type 0) → ((value : A) → P value → Q value) → IfOk result P → IfOk result Q
@@ -296,7 +296,7 @@ module _ {S : Type 0} (g : store.Ghosts S)
   -- the store is not queried at all
   pub look_away : {A : Type 0} (value : A) → LeavesContents (ok_of value) (connection_contents g old told_before opened) (connection_contents g old told_before opened)
   look_away value = record {
-    on = record { told = λ t. t; rests = λ _. rests; clean = λ t. t; own = λ own. own; memory = λ memory. memory; must = must_tell };
+    on = record { told = λ t. t; rests = λ _. rests; clean = λ t. t; own = λ own. own; memory = λ memory. memory; must = must_tell g old told_before opened };
     same = λ t.
         let open_now = subst (λ (h : Held S). IsTrue (state g h).is_open) rests.0 t.1 in
         let only = only_kept g settled stays something old old opened open_now (rests.1 t.0 open_now t.2) in

@@ -16,13 +16,13 @@ module _ {D : Type 0} {g : Ghosts D} (survives : Survivors) (it : FileStore D g)
   finds_only : (image : Image) → MayBeLeft it image → FindsOnly (files_find image) survives
   finds_only image may [] entries some found = absurd (some refl)
   finds_only image may (byte ∷ name) entries some (trees, found, kept) =
-      ∥∥₁_map (λ (db : (x : Trees) × recovers it x × HoldsDatabase image x). left.fewer trees entries (subst (recovers it) (sym (found.same db.0 db.2)) db.1) kept)
-      (opens_again it (left.numbered may.clean) (left.sound may.clean) image may.may)
+      ∥∥₁_map (opens_again it (left.numbered may.clean) (left.sound may.clean) image may.may)
+      (λ (db : (x : Trees) × recovers it x × HoldsDatabase image x). left.fewer trees entries (subst (recovers it) (sym (found.same db.0 db.2)) db.1) kept)
 
   pub leaves_survivors : LeavesSurvivors survives it
   leaves_survivors = record {
     only = finds_only;
-    some = λ clean. ∥∥₁_map (λ (found : (x : Trees) × recovers it x). let r : (image : Image) × MayBeLeft it image = (found.1.0, record { clean = clean; may = found.1.2 }) in r) (left.some clean);
+    some = λ clean. ∥∥₁_map (left.some clean) (λ (found : (x : Trees) × recovers it x). let r : (image : Image) × MayBeLeft it image = (found.1.0, record { clean = clean; may = found.1.2 }) in r);
   }
 
 -- the same of the files that a keeper gave back, if it gave any
