@@ -1,2 +1,3 @@
 mod AskingLemmas
 mod CallLemmas
+mod NextRunLemmas

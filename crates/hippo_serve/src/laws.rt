@@ -1,10 +1,18 @@
 //! Laws about runs, written as the contracts of functions that do nothing.
-ghost use Rattle.std.specs.Prelude.{ℕ, List};
+ghost use Rattle.std.specs.Prelude.{ℕ, List, IfSome};
+ghost use Rattle.sqlite_store.specs.FileStore.{view};
+ghost use Rattle.sqlite_trees.specs.View.{IsClean};
+ghost use Rattle.sqlite_wal.specs.Recovery.{Image};
 ghost use Rattle.hippo_model.specs.Terms.{History};
 ghost use Rattle.hippo_keeper.specs.MemoryKeeping.{memory_keeper_state};
+ghost use Rattle.hippo_serve.specs.NextRun.{FilesHold, FilesHoldEither};
+ghost use Rattle.hippo_sqlite.specs.Leaving.{MayBeLeft};
 ghost use Rattle.hippo_serve_jobs.specs.Keeping.{KeepsHistory, KeepsEither, FindsWhatSurvives, FindsHistory, FindsEither};
 
 use hippo_keeper::{Keeper, MemoryKeeper};
+use hippo_sqlite_files::FileKeeper;
+use sqlite::{FileFrom, FileStore};
+use sqlite_disk::Start;
 
 /// The next run begins with the history that the last run left, if a start finds only what survives
 /// a stop. If the keeper failed, it begins with one of two histories.
@@ -29,4 +37,21 @@ pub fn next_run_in_memory(keeper: MemoryKeeper) -> MemoryKeeper
         → FindsEither store history longer (memory_keeper_state result) }
 {
     keeper.restart()
+}
+
+/// Ends a run over files, and gives them back. Whatever a stop may leave in them, the next run over
+/// a named store finds the history that this run stored: after each ending that of `hippo_top`, or
+/// one of two histories if the keeper failed. While the disk is clean, a stop may leave something.
+pub fn leave<B: Start>(keeper: FileKeeper<B>) -> Option<FileStore<FileFrom<B>>>
+    ensures goes_on { IfSome result (λ it. (image : Image) → MayBeLeft it image →
+        (history : History) → KeepsHistory history (⟦<FileKeeper<B> as Keeper>⟧.state keeper)
+        → FilesHold history image) }
+    ensures either { IfSome result (λ it. (image : Image) → MayBeLeft it image →
+        (history longer : History)
+        → KeepsEither history longer (⟦<FileKeeper<B> as Keeper>⟧.state keeper)
+        → FilesHoldEither history longer image) }
+    ensures some { IfSome result (λ it. IsClean (view it)
+        → ∥ ((image : Image) × MayBeLeft it image) ∥₁) }
+{
+    keeper.into_store()
 }

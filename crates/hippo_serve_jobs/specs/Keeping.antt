@@ -22,15 +22,16 @@ pub record KeepsEither (history longer : History) (keeper : KeeperState) : Type 
 
 -- a start of the next keeper finds only what survives a stop of the last keeper
 abbrev pub FindsWhatSurvives : Txt → KeeperState → KeeperState → Type 0
-FindsWhatSurvives name last next = (store : Store) → next.finds name store → last.survives store
+FindsWhatSurvives name last next =
+    (store : Store) → next.finds name store → ∥ last.survives store ∥₁
 
 -- a start finds only the stored forms of this history
 abbrev pub FindsHistory : Txt → History → KeeperState → Type 0
 FindsHistory name history keeper =
-    (store : Store) → keeper.finds name store → IsStoreOf meaning store history
+    (store : Store) → keeper.finds name store → ∥ IsStoreOf meaning store history ∥₁
 
 -- a start finds only the stored forms of one of these two histories
 abbrev pub FindsEither : Txt → History → History → KeeperState → Type 0
 FindsEither name history longer keeper =
     (store : Store) → keeper.finds name store
-    → IsStoreOf meaning store history ⊎ IsStoreOf meaning store longer
+    → ∥ (IsStoreOf meaning store history ⊎ IsStoreOf meaning store longer) ∥₁

@@ -1,3 +1,4 @@
 mod ContentsLemmas
 mod KeeperLemmas
 mod StateLemmas
+pub mod LeavingLemmas

@@ -1,4 +1,5 @@
 pub mod Contents
+pub mod Leaving
 pub mod Links
 pub mod Openings
 pub mod Outcomes

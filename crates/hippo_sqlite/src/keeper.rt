@@ -1,6 +1,7 @@
 //! A keeper over a SQLite store.
-ghost use Rattle.std.specs.Prelude.{◌≡◌, ◌↔◌, ℕ, List, [], false, IfOk, OnOk, OnErr};
+ghost use Rattle.std.specs.Prelude.{◌≡◌, ◌↔◌, ℕ, List, [], false, IfOk, IfSome, OnOk, OnErr};
 ghost use Rattle.hippo_keeper.specs.Keeping.{Store, IsReady};
+ghost use Rattle.hippo_sqlite.specs.Leaving.{IsLeftBy};
 ghost use Rattle.hippo_sqlite.specs.Links.{link_contents};
 ghost use Rattle.hippo_sqlite.specs.Standings.{finds_by, finds_own_by, sqlite_keeper_state, IsStarted};
 
@@ -68,6 +69,23 @@ impl<O: Opener> SqliteKeeper<O> {
     {
         self.link = self.connect(alloc, name)?;
         Ok(())
+    }
+}
+
+impl<O: Opener + Drop> SqliteKeeper<O> {
+    /// Ends the keeper, and gives back the store that it opened, if it opened one. What an opening of
+    /// that store may find after a stop survives a stop of the keeper.
+    pub fn into_store(self) -> Option<O::Base>
+        ensures { IfSome result (IsLeftBy O.Base.Store
+            (⟦<SqliteKeeper<O> as Keeper>⟧.state self).survives) }
+    {
+        let SqliteKeeper {
+            opener,
+            link,
+            standing: _,
+        } = self;
+        drop(opener);
+        link.into_store()
     }
 }
 

@@ -1,11 +1,12 @@
 //! A keeper's connection to its store.
-ghost use Rattle.std.specs.Prelude.{◌≡◌, ◌+◌, ◌^◌, ◌<◌, ◌≤◌, true, false, Err, List, [], map, length, if◌then◌else◌, IfOk, ⊤};
+ghost use Rattle.std.specs.Prelude.{◌≡◌, ◌+◌, ◌^◌, ◌<◌, ◌≤◌, true, false, Err, List, [], map, length, if◌then◌else◌, IfOk, IfSome, ⊤};
 ghost use Rattle.sqlite.specs.State.{HasCleanDisk, Survives, CommitsShowing, Opens, IsLive};
 ghost use Rattle.sqlite.specs.Held.{state};
 ghost use Rattle.hippo_keeper.specs.Answering.{has_failed};
 ghost use Rattle.hippo_keeper.specs.Keeping.{RisesAbove, next_number};
 ghost use Rattle.hippo_keeper.specs.Selecting.{selected_entries, was_asked_in, is_selected, versions_read};
 ghost use Rattle.hippo_sqlite.specs.Contents.{AppendsTo, HasRead};
+ghost use Rattle.hippo_sqlite.specs.Leaving.{IsLeftBy};
 ghost use Rattle.hippo_sqlite.specs.Links.{linked_contents, link_contents};
 ghost use Rattle.hippo_sqlite.specs.Outcomes.{HasExecuted, HasLooked, IsLinked};
 ghost use Rattle.hippo_sqlite_table.specs.Queries.{insert_sql, read_sql, params_of};
@@ -130,6 +131,18 @@ impl<S: Alter + Drop> Linked<S> {
         }
     }
 
+    /// Gives the store back, without what was not committed.
+    fn into_store(self) -> S
+        ensures { IsLeftBy S.Store (linked_contents S.Store self).survives result }
+    {
+        let Linked {
+            connection,
+            told: _,
+            opened: _,
+        } = self;
+        connection.into_store()
+    }
+
     // Records the state of the connection, unless the call failed.
     fn note<T>(&mut self, answer: &Result<T, KeeperFault>)
         ensures connection { self.new.connection ≡ self.old.connection }
@@ -205,6 +218,20 @@ impl<S: Alter + Drop> Link<S> {
         match Linked::new(connection) {
             Ok(linked) => Ok(Link::Opened(linked)),
             Err(fault) => Err(fault),
+        }
+    }
+
+    /// Gives the store back, if one was opened, without what was not committed.
+    pub(crate) fn into_store(self) -> Option<S>
+        ensures { IfSome result (IsLeftBy S.Store (link_contents S.Store self).survives) }
+    {
+        match self {
+            Link::Absent => None,
+            Link::InMemory(keeper) => {
+                drop(keeper);
+                None
+            }
+            Link::Opened(linked) => Some(linked.into_store()),
         }
     }
 

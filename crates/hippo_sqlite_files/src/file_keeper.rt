@@ -1,7 +1,8 @@
 //! A keeper over files.
-ghost use Rattle.std.specs.Prelude.{ℕ, ◌↔◌, List, false};
+ghost use Rattle.std.specs.Prelude.{ℕ, ◌↔◌, List, false, IfSome};
 ghost use Rattle.sqlite_wal.specs.Files.{image_at};
 ghost use Rattle.hippo_keeper.specs.Keeping.{Store, IsReady};
+ghost use Rattle.hippo_sqlite.specs.Leaving.{LeavesSurvivors};
 ghost use Rattle.hippo_sqlite.specs.Openings.{IsFoundIn};
 ghost use Rattle.hippo_sqlite.specs.Standings.{finds_by, finds_own_by};
 
@@ -9,7 +10,7 @@ use hippo_keeper::{CountedKeeper, Keeper, KeeperFault, ReadQuery, ReadResult, St
 use hippo_model::StoredEntry;
 use hippo_sqlite::{FileOpener, Opener, SqliteKeeper};
 use hippo_values::Moment;
-use sqlite::Start;
+use sqlite::{FileFrom, FileStore, Start};
 use std::alloc::Global;
 use std::rt::HostRuntime;
 use std::sync::ledger::Ledger;
@@ -40,6 +41,16 @@ impl<B: Start> FileKeeper<B> {
         FileKeeper {
             keeper: SqliteKeeper::new(FileOpener::new(runtime, start)),
         }
+    }
+
+    /// Ends the keeper, and gives back the files that it opened, if it opened any. Whatever a stop may
+    /// leave in them, a later start with a name finds there only what survives a stop of this keeper.
+    pub fn into_store(self) -> Option<FileStore<FileFrom<B>>>
+        ensures { IfSome result
+            (LeavesSurvivors (⟦<FileKeeper<B> as Keeper>⟧.state self).survives) }
+    {
+        let FileKeeper { keeper } = self;
+        keeper.into_store()
     }
 
     /// Closes the files.
