@@ -33,7 +33,7 @@ use Rattle.hippo_audit_search.specs.Searching.{SharedBy}
 use Rattle.hippo_audit_search.specs.Sides.{common_in, AreSidesOf, RepresentsAudit}
 use Rattle.hippo_audit_search.proofs.CommonLemmas.{place-found, common-in-query, common-in-audit, common-distinct, common-open}
 use Rattle.hippo_audit_search.proofs.FirstLemmas.{find-map, find-first, find-none, first-holds}
-use Rattle.hippo_audit_search.proofs.SideLemmas.{one-of-product, any-of-product, share-both, both-share, one-agrees, agrees-one, counts-parts, parts-counted, unmasked_query, passes-unmasked_query}
+use Rattle.hippo_audit_search.proofs.SideLemmas.{one-of-product, any-of-product, share-both, both-share, one-agrees, agrees-one, counts-parts, parts-counted, unmasked_query, passes-unmasked_operand}
 use Rattle.hippo_audit_search.proofs.TupleLemmas.{AllStandIn, tuples-by-places, agrees-from-tuple, tuple-from-agrees, agrees-in-range}
 
 length_map : {A B : Type 0} (f : A → B) (xs : List A) → length (map f xs) ≡ length xs
@@ -149,7 +149,7 @@ module _ (choices : Choices) (query : Masked) (audit : Audit) (seen : List Expr)
   own_rows = each_itself (rows_named audit.tables audit_sets) common
 
   audit_counts : (rows : Combination) → passes audit.cond (all_shown rows) ≡ (is_guarded choices (unmasked_query audit.cond) rows && masked_passes choices (unmasked_query audit.cond) rows && are_shown choices [] rows)
-  audit_counts rows = sym (passes-unmasked_query choices audit.cond rows) ∙ and_true (masked_passes choices (unmasked_query audit.cond) rows)
+  audit_counts rows = sym (passes-unmasked_operand choices audit.cond rows) ∙ and_true (masked_passes choices (unmasked_query audit.cond) rows)
 
   so : (given : List Place) → Holds given → shares (shared_at given) ≡ true
   so given holds =

@@ -22,14 +22,12 @@ use Rattle.hippo_model.specs.Conditions.{is_true, truth}
 use Rattle.hippo_model.specs.Answers.{product, passes}
 use Rattle.hippo_model.specs.Masking.{Choices, is_guarded, masked_passes}
 use Rattle.hippo_model_laws.proofs.TruthWithChange.{agrees}
-use Rattle.hippo_model.specs.MaskedTruth.{masked_value, masked_truth}
+use Rattle.hippo_model.specs.MaskedTruth.{masked_value}
 use Rattle.hippo_eval.specs.Unmasked.{unmasked_operand, unmasked_condition, all_shown}
 use Rattle.hippo_eval.specs.Walks.{rows_of}
 use Rattle.hippo_eval.proofs.UnmaskedLemmas.{value_is}
 use Rattle.hippo_join_lookups.specs.Places.{slot_at, chosen_rows, in_range, places_of, stays, stands}
 use Rattle.hippo_join_lookups.specs.Known.{is_chosen}
-use Rattle.hippo_join_implied.specs.Implied.{with_implied}
-use Rattle.hippo_join_implied.proofs.ImpliedLemmas.{holds-with_implied}
 use Rattle.hippo_join.specs.Existence.{HasOne, Decides}
 use Rattle.hippo_join_stages.specs.Finding.{has_places}
 use Rattle.hippo_join_stages.proofs.ProductLemmas.{product-rows, has-places_of}
@@ -160,16 +158,13 @@ module _ (choices : Choices) (query : Masked) (seen : List Expr) (sets : List Ke
   unfolding stays
   parts-counted places counts = and_parts (in_range sets places) (is_guarded choices query (chosen_rows sets places) && masked_passes choices query (chosen_rows sets places)) counts
 
--- an audit's condition, with what it implies, as a query without guards
+-- an audit's condition as a query without guards
 abbrev pub unmasked_query : CondOf Operand → Masked
-unmasked_query condition = record { items = []; tables = []; guards = []; cond = with_implied (unmasked_condition condition) }
+unmasked_query condition = record { items = []; tables = []; guards = []; cond = unmasked_condition condition }
 
-pub passes-unmasked_operand : (choices : Choices) (condition : CondOf Operand) (rows : Combination) → is_true (masked_truth choices rows (unmasked_condition condition)) ≡ passes condition (all_shown rows)
+pub passes-unmasked_operand : (choices : Choices) (condition : CondOf Operand) (rows : Combination) → masked_passes choices (unmasked_query condition) rows ≡ passes condition (all_shown rows)
 passes-unmasked_operand choices condition rows =
     ap is_true (agrees unmasked_operand (masked_value choices rows) condition ∙ ap (λ (value : Operand → Value). truth value condition) (λ i operand. value_is choices rows operand i))
-
-pub passes-unmasked_query : (choices : Choices) (condition : CondOf Operand) (rows : Combination) → masked_passes choices (unmasked_query condition) rows ≡ passes condition (all_shown rows)
-passes-unmasked_query choices condition rows = holds-with_implied choices rows (unmasked_condition condition) ∙ passes-unmasked_operand choices condition rows
 
 -- if no combination of an audit's rows counts, none has a tuple
 pub audit-none : (choices : Choices) (audit : Audit) (sets : List KeyedRows) (unmasked : Masked) → unmasked ≡ unmasked_query audit.cond
@@ -179,7 +174,7 @@ audit-none choices audit sets unmasked is (Ok true) one = λ wrong. absurd (fals
 audit-none choices audit sets unmasked is (Ok false) none = λ e tuple. not_so (audit_has audit sets tuple) (λ has.
     let found = one-of-product sets (λ rows. has_tuple_in audit.tables sets tuple rows && passes audit.cond (all_shown rows)) has in
     let rows : Combination = chosen_rows sets found.0 in
-    let counts : masked_passes choices (unmasked_query audit.cond) rows ≡ true = passes-unmasked_query choices audit.cond rows ∙ (and_parts (has_tuple_in audit.tables sets tuple rows) (passes audit.cond (all_shown rows)) found.2).1 in
+    let counts : masked_passes choices (unmasked_query audit.cond) rows ≡ true = passes-unmasked_operand choices audit.cond rows ∙ (and_parts (has_tuple_in audit.tables sets tuple rows) (passes audit.cond (all_shown rows)) found.2).1 in
     let one : HasOne choices (unmasked_query audit.cond) [] sets (replicate (length sets) None) = record {
       places = found.0;
       fits = Fits-open found.0 (length sets) (length-in_range sets found.0 found.1);

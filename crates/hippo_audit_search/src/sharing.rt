@@ -2,8 +2,6 @@
 ghost use Rattle.std.specs.Prelude.{◌≡◌, IfOk, map, option_map};
 ghost use Rattle.std.specs.List.{All};
 ghost use Rattle.hippo_tables_keyed.specs.RowSets.{IsAscending, key_in};
-ghost use Rattle.hippo_eval.specs.Unmasked.{unmasked_condition};
-ghost use Rattle.hippo_join_implied.specs.Implied.{with_implied};
 ghost use Rattle.hippo_audit_search.specs.Comparing.{HaveRows, shared_between};
 ghost use Rattle.hippo_audit_search.specs.Searching.{HaveCommon};
 ghost use Rattle.hippo_audit_search.specs.Sides.{AreOfTuple, AreSidesOf, RepresentsAudit, condition_alone, tuple_there};
@@ -15,9 +13,8 @@ use crate::tuples::tuple_at;
 use hippo_audit_common::{CommonPlaces, common_places};
 use hippo_eval::unmasked_condition;
 use hippo_join::blank_row;
-use hippo_join_implied::add_implied;
 use hippo_join_stages::Side;
-use hippo_model::{Audit, BornRow, ChoiceView, CondOf, Expr, Masked, SharedTuple};
+use hippo_model::{Audit, BornRow, ChoiceView, Masked, SharedTuple};
 use hippo_tables_rows::Sets;
 use hippo_values::{Memory, Sequence};
 use std::alloc::Global;
@@ -31,16 +28,7 @@ pub(crate) struct AuditSide {
     pub blank: BornRow,
 }
 
-// An audit's condition over unmasked rows, with what it implies.
-fn unmasked_implied(alloc: Global, audit: &Audit) -> Result<CondOf<Expr>, Memory>
-    ensures { IfOk result (λ made. made ≡ with_implied (unmasked_condition audit.now.cond)) }
-{
-    let mut condition = unmasked_condition(alloc, &audit.cond)?;
-    add_implied(alloc, &mut condition)?;
-    Ok(condition)
-}
-
-// An audit's condition, with what it implies, as a query without guards.
+// An audit's condition as a query without guards.
 pub(crate) fn unmasked_query(alloc: Global, audit: &Audit) -> Result<Masked, Memory>
     ensures { IfOk result (λ query. query ≡ condition_alone audit.now) }
 {
@@ -48,7 +36,7 @@ pub(crate) fn unmasked_query(alloc: Global, audit: &Audit) -> Result<Masked, Mem
         items: Sequence::new(alloc),
         tables: Sequence::new(alloc),
         guards: Sequence::new(alloc),
-        cond: unmasked_implied(alloc, audit)?,
+        cond: unmasked_condition(alloc, &audit.cond)?,
     })
 }
 
