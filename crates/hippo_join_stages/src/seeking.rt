@@ -73,8 +73,7 @@ impl<'a, C: ChoiceView> Side<'a, C> {
     // Whether the chosen rows fix the value of a column. Unless its table is looked up `once`,
     // literals do not count, since the rows that they find are the same each time.
     pub(crate) fn is_joined(&self, column: Ref, slots: &[Option<usize>], once: bool) -> bool {
-        self.told_value(column, slots).is_some()
-            && (once || self.told_value(column, &[]).is_none())
+        self.told_value(column, slots).is_some() && (once || self.told_value(column, &[]).is_none())
     }
 
     // Whether the chosen rows fix the value of a column that its table is ordered by.
@@ -125,7 +124,12 @@ impl<'a, C: ChoiceView> Side<'a, C> {
     }
 
     // The number of a table's rows that an access path finds, if it can be used.
-    pub(crate) fn count_by(&self, table: usize, access: Access, slots: &[Option<usize>]) -> Option<usize>
+    pub(crate) fn count_by(
+        &self,
+        table: usize,
+        access: Access,
+        slots: &[Option<usize>],
+    ) -> Option<usize>
         requires { table < length self.now.sets.now }
     {
         match access {
