@@ -1,5 +1,5 @@
 -- The moments of entries. In a valid history the entries up to a bound are its first entries.
-use Rattle.std.proofs.Common.{◌≡◌, ◌∙◌, ℕ, zero, suc, ◌+◌, ◌<◌, ◌≤◌, Bool, true, false, cond, ◌&&◌, List, [], ◌∷◌, ◌++◌, filter, map, length, take, Option, Some, None, refl, sym, ap, subst, length-append, arith}
+use Rattle.std.proofs.Common.{◌≡◌, ◌∙◌, ℕ, zero, suc, ◌+◌, ◌<◌, ◌≤◌, Bool, true, false, cond, ◌&&◌, List, [], ◌∷◌, ◌++◌, filter, map, length, take, drop, get_or, Option, Some, None, refl, sym, ap, subst, length-append, arith}
 use Rattle.std.specs.Prelude.{◌==◌, int_le, nat_le, count_by}
 use Rattle.std.specs.Option.{option_or, option_map_or}
 use Rattle.std.proofs.lemmas.Bool.{and_parts, false≢true}
@@ -17,6 +17,7 @@ use Rattle.hippo_model.specs.Validity.{keeps_order, is_acceptable, may_follow, i
 use Rattle.hippo_model.proofs.LastWords.{last_word-append}
 use Rattle.hippo_model_laws.proofs.ValidFronts.{holds_of_each_valid, next_number}
 use Rattle.hippo_typing.specs.Meanings.{meaning}
+use Rattle.hippo_typing_catalog.proofs.ListLemmas.{drop_at_get_or}
 use Rattle.hippo_history_top.specs.declared.asking.Bound.{Bound}
 use Rattle.hippo_history_top.specs.declared.asking.Bound.TheVariants.{Number, At}
 use Rattle.hippo_history_top.specs.Dating.{is_to, entries_to, moments_of, count_to}
@@ -138,3 +139,12 @@ first_to_bound (At at) history valid = first_moments at history valid
 pub within_more : (count index one : ℕ) (test : Bool) → one ≡ cond test 1 0 → count ≤ index → count + one ≤ index + 1
 within_more count index one true is within = omega (arith, is, within)
 within_more count index one false is within = omega (arith, is, within)
+
+summed : (count one own rest here whole : ℕ) → one ≡ own → here ≡ own + rest → count + here ≡ whole → count + one + rest ≡ whole
+summed count one own rest here whole same parts so_far = omega (arith, same, parts, so_far)
+
+pub one_more_counted : (at : Moment) (moments : List Moment) (index count one : ℕ) (set : Moment) → index < length moments → set ≡ get_or moments index set → one ≡ cond (int_le set at) 1 0
+    → count + count_to (At at) (drop index moments) ≡ count_to (At at) moments → count + one + count_to (At at) (drop (index + 1) moments) ≡ count_to (At at) moments
+one_more_counted at moments index count one set inside is same so_far =
+    summed count one (cond (int_le set at) 1 0) (count_to (At at) (drop (index + 1) moments)) (count_to (At at) (drop index moments)) (count_to (At at) moments)
+    same (ap (count_to (At at)) (drop_at_get_or moments index set inside is)) so_far
