@@ -5,6 +5,6 @@ use Rattle.hippo_history_top.proofs.moments.count_at.Goals as goal
 
 pub loop-set-preserved : goal.loop-set-preserved
 loop-set-preserved c = record {
-  sum = one_more_counted c.args.moment c.args.moments.now c.loop-set.set-index c.loop-set.count c.one_by.result c.set-item.result c.loop-set-test.true c.set-item.is c.one_by.ensures c.loop-set.invariant.sum;
-  within = within_more c.loop-set.count c.loop-set.set-index c.one_by.result (int_le c.set-item.result c.args.moment) c.one_by.ensures c.loop-set.invariant.within;
+  sum = one_more_counted c.args.moment c.args.moments.now c.loop-set.set-index c.loop-set.count c.one_by-count.result c.set-item.result c.loop-set-test.true c.set-item.is c.one_by-count.ensures c.loop-set.invariant.sum;
+  within = within_more c.loop-set.count c.loop-set.set-index c.one_by-count.result (int_le c.set-item.result c.args.moment) c.one_by-count.ensures c.loop-set.invariant.within;
 }
