@@ -1,5 +1,5 @@
 -- The moments of entries. In a valid history the entries up to a bound are its first entries.
-use Rattle.std.proofs.Common.{◌≡◌, ◌∙◌, ℕ, zero, suc, ◌+◌, ◌<◌, ◌≤◌, Bool, true, false, cond, ◌&&◌, List, [], ◌∷◌, ◌++◌, filter, map, length, take, Option, Some, None, refl, sym, ap, subst, length-append, arith}
+use Rattle.std.proofs.Common.{◌≡◌, ◌∙◌, ℕ, zero, suc, ◌+◌, ◌<◌, ◌≤◌, Bool, true, false, cond, ◌&&◌, List, [], ◌∷◌, ◌++◌, filter, map, length, take, drop, get_or, Option, Some, None, refl, sym, ap, subst, length-append, arith}
 use Rattle.std.specs.Prelude.{◌==◌, int_le, nat_le, count_by}
 use Rattle.std.specs.Option.{option_or, option_map_or}
 use Rattle.std.proofs.lemmas.Bool.{and_parts, false≢true}
@@ -17,6 +17,7 @@ use Rattle.hippo_model.specs.Validity.{keeps_order, is_acceptable, may_follow, i
 use Rattle.hippo_model.proofs.LastWords.{last_word-append}
 use Rattle.hippo_model_laws.proofs.ValidFronts.{holds_of_each_valid, next_number}
 use Rattle.hippo_typing.specs.Meanings.{meaning}
+use Rattle.hippo_typing_catalog.proofs.ListLemmas.{drop_at_get_or}
 use Rattle.hippo_history_top.specs.declared.asking.Bound.{Bound}
 use Rattle.hippo_history_top.specs.declared.asking.Bound.TheVariants.{Number, At}
 use Rattle.hippo_history_top.specs.Dating.{is_to, entries_to, moments_of, count_to}
@@ -24,23 +25,23 @@ use Rattle.hippo_history_top.specs.Dating.{is_to, entries_to, moments_of, count_
 pub one_moment_more : (read : History) (entry : Entry) → moments_of (read ++ entry ∷ []) ≡ moments_of read ++ entry.moment ∷ []
 one_moment_more read entry = map-append (λ (e : Entry). e.moment) read (entry ∷ [])
 
-take_none : {A : Type 0} (n : ℕ) → take {A} n [] ≡ []
-take_none zero = refl
-take_none (suc n) = refl
+take_none : (n : ℕ) (history : History) → history ≡ [] → take n history ≡ []
+take_none zero history none = refl
+take_none (suc n) history none = ap (take (suc n)) none
 
 -- the first members of a list, with one more member at its end
-take_before : {A : Type 0} (n : ℕ) (list : List A) (x : A) → n ≤ length list → take n (list ++ x ∷ []) ≡ take n list
+take_before : (n : ℕ) (list : History) (x : Entry) → n ≤ length list → take n (list ++ x ∷ []) ≡ take n list
 take_before zero list x within = refl
 take_before (suc n) [] x within = absurd (omega arith)
-take_before (suc n) (first ∷ list) x within = ap (λ (l : List _). first ∷ l) (take_before n list x (omega arith))
+take_before (suc n) (first ∷ list) x within = ap (λ (l : History). first ∷ l) (take_before n list x (omega arith))
 
-take_whole : {A : Type 0} (n : ℕ) (list : List A) → length list ≤ n → take n list ≡ list
-take_whole n [] within = take_none n
+take_whole : (n : ℕ) (list : History) → length list ≤ n → take n list ≡ list
+take_whole n [] within = take_none n [] refl
 take_whole zero (first ∷ list) within = absurd (omega arith)
-take_whole (suc n) (first ∷ list) within = ap (λ (l : List _). first ∷ l) (take_whole n list (omega arith))
+take_whole (suc n) (first ∷ list) within = ap (λ (l : History). first ∷ l) (take_whole n list (omega arith))
 
-all_of : {A : Type 0} (list : List A) (x : A) (n : ℕ) (front : List A) → front ≡ take n list → length list ≤ n → front ++ x ∷ [] ≡ list ++ x ∷ []
-all_of list x n front is within = ap (λ (l : List _). l ++ x ∷ []) (is ∙ take_whole n list within)
+all_of : (list : History) (x : Entry) (n : ℕ) (front : History) → front ≡ take n list → length list ≤ n → front ++ x ∷ [] ≡ list ++ x ∷ []
+all_of list x n front is within = ap (λ (l : History). l ++ x ∷ []) (is ∙ take_whole n list within)
 
 -- by a number
 module _ (n : ℕ) where
@@ -50,18 +51,18 @@ module _ (n : ℕ) where
   next : (history : History) (entry : Entry) → FirstNumbers history → entry.seq ≡ length history + 1 → (test : Bool) → nat_le entry.seq n ≡ test
       → entries_to (Number n) history ++ cond test (entry ∷ []) [] ≡ take n (history ++ entry ∷ [])
   next history entry so_far seq true is =
-      let within : entry.seq ≤ n = grind (nat_tests, is) in
+      let within : entry.seq ≤ n = grind (arith, nat_tests, is) in
       all_of history entry n (entries_to (Number n) history) so_far (omega (arith, seq, within))
       ∙ sym (take_whole n (history ++ entry ∷ []) (let sum = length-append history (entry ∷ []) in omega (arith, seq, within, sum)))
   next history entry so_far seq false is =
-      let past : n < entry.seq = grind (nat_tests, is) in
+      let past : n < entry.seq = grind (arith, nat_tests, is) in
       append-nil (entries_to (Number n) history) ∙ so_far ∙ sym (take_before n history entry (omega (arith, seq, past)))
 
   pub first_numbers : (history : History) → is_valid meaning history ≡ true → FirstNumbers history
   first_numbers history valid =
       holds_of_each_valid meaning FirstNumbers
       (λ h entry good so_far may. filter-append (is_to (Number n)) h (entry ∷ []) ∙ next h entry so_far (next_number meaning h entry may) (nat_le entry.seq n) refl)
-      (sym (take_none n)) history valid
+      (sym (take_none n [] refl)) history valid
 
 -- by a moment
 module _ (at : Moment) where
@@ -82,10 +83,10 @@ module _ (at : Moment) where
   earlier (Some last) moment order is = grind (arith, ints, order, is)
 
   module _ (history : History) (entry : Entry) (so_far : FirstMoments history) (order : keeps_order history entry.moment ≡ true) where
-    count : ℕ
+    abbrev count : ℕ
     count = count_by is_by (moments_of history)
 
-    longer : count_by is_by (moments_of (history ++ entry ∷ [])) ≡ count + (cond (is_by entry.moment) 1 0 + 0)
+    longer : count_by is_by (moments_of (history ++ entry ∷ [])) ≡ count + (0 + cond (is_by entry.moment) 1 0)
     longer = ap (count_by is_by) (one_moment_more history entry) ∙ sum_by-append (λ moment. cond (is_by moment) 1 0) (moments_of history) (entry.moment ∷ [])
 
     one : length (history ++ entry ∷ []) ≡ length history + 1
@@ -98,7 +99,7 @@ module _ (at : Moment) where
     by_test true is =
         let all : count ≡ length history = so_far.all (earlier (last_moment history) entry.moment order is) in
         let sum : count_by is_by (moments_of (history ++ entry ∷ [])) ≡ length (history ++ entry ∷ []) =
-        longer ∙ ap (λ (b : Bool). count + (cond b 1 0 + 0)) is ∙ omega (arith, all, one) in
+        longer ∙ ap (λ (b : Bool). count + (0 + cond b 1 0)) is ∙ omega (arith, all, one) in
         record {
           first =
               filter-append (is_to (At at)) history (entry ∷ []) ∙ ap (λ (b : Bool). entries_to (At at) history ++ cond b (entry ∷ []) []) is
@@ -108,7 +109,7 @@ module _ (at : Moment) where
           within = omega (arith, sum);
         }
     by_test false is =
-        let same : count_by is_by (moments_of (history ++ entry ∷ [])) ≡ count = longer ∙ ap (λ (b : Bool). count + (cond b 1 0 + 0)) is ∙ omega arith in
+        let same : count_by is_by (moments_of (history ++ entry ∷ [])) ≡ count = longer ∙ ap (λ (b : Bool). count + (0 + cond b 1 0)) is ∙ omega arith in
         let within = so_far.within in
         record {
           first =
@@ -138,3 +139,12 @@ first_to_bound (At at) history valid = first_moments at history valid
 pub within_more : (count index one : ℕ) (test : Bool) → one ≡ cond test 1 0 → count ≤ index → count + one ≤ index + 1
 within_more count index one true is within = omega (arith, is, within)
 within_more count index one false is within = omega (arith, is, within)
+
+summed : (count one own rest here whole : ℕ) → one ≡ own → here ≡ 0 + own + rest → count + here ≡ whole → count + one + rest ≡ whole
+summed count one own rest here whole same parts so_far = omega (arith, same, parts, so_far)
+
+pub one_more_counted : (at : Moment) (moments : List Moment) (index count one : ℕ) (set : Moment) → index < length moments → set ≡ get_or moments index set → one ≡ cond (int_le set at) 1 0
+    → count + count_to (At at) (drop index moments) ≡ count_to (At at) moments → count + one + count_to (At at) (drop (index + 1) moments) ≡ count_to (At at) moments
+one_more_counted at moments index count one set inside is same so_far =
+    summed count one (cond (int_le set at) 1 0) (count_to (At at) (drop (index + 1) moments)) (count_to (At at) (drop index moments)) (count_to (At at) moments)
+    same (ap (count_to (At at)) (drop_at_get_or moments index set inside is) ∙ sum_by-append (λ (moment : Moment). cond (int_le moment at) 1 0) (set ∷ []) (drop (index + 1) moments)) so_far
