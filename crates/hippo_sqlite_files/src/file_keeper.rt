@@ -82,7 +82,7 @@ impl<B: Start> Keeper for FileKeeper<B> {
     }
 }
 
-impl<L: Ledger> CountedKeeper<L> for FileKeeper {
+impl<B: Start, L: Ledger> CountedKeeper<L> for FileKeeper<B> {
     fn read(
         &mut self,
         alloc: Global,
