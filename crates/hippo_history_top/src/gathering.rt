@@ -21,19 +21,19 @@ pub(crate) trait Gather {
     ghost Covers: { Self → End → History → Type 0 };
 
     /// Goes on over the next entry.
-    fn cover(&mut self, alloc: Global, last: Bound, entry: &Entry) -> Result<(), Memory>
-        ensures covers { OnOk result ((read : History) → Covers self.old last read
-            → Covers self.new last (read ++ entry.now ∷ [])) };
+    fn cover(&mut self, alloc: Global, last: &Bound, entry: &Entry) -> Result<(), Memory>
+        ensures covers { OnOk result ((read : History) → Covers self.old last.now read
+            → Covers self.new last.now (read ++ entry.now ∷ [])) };
 }
 
 // Goes on over the entry that has this stored form. In a store that was loaded there is one.
 fn cover_kept<G: Gather>(
     alloc: Global,
-    last: Bound,
+    last: &Bound,
     kept: &StoredEntry,
     gathered: &mut G,
 ) -> Result<(), Memory>
-    ensures gathers { OnOk result (Gathers (G.Covers gathered.old last) (G.Covers gathered.new last)
+    ensures gathers { OnOk result (Gathers (G.Covers gathered.old last.now) (G.Covers gathered.new last.now)
         (kept.now ∷ [])) }
 {
     match decode(alloc, kept) {
@@ -50,12 +50,12 @@ fn cover_kept<G: Gather>(
 // Goes on over the entries of a piece.
 fn cover_piece<G: Gather>(
     alloc: Global,
-    last: Bound,
+    last: &Bound,
     piece: &[StoredEntry],
     number: &mut u64,
     gathered: &mut G,
 ) -> Result<(), Memory>
-    ensures gathers { OnOk result (Gathers (G.Covers gathered.old last) (G.Covers gathered.new last)
+    ensures gathers { OnOk result (Gathers (G.Covers gathered.old last.now) (G.Covers gathered.new last.now)
         piece.now) }
     ensures last { OnOk result (number.new ≡ last_number number.old piece.now) }
 {
@@ -81,14 +81,14 @@ fn reading_of(covered: Result<(), Memory>, any: bool) -> Result<bool, KeeperFaul
 // Reads the next piece and goes on over its entries. Returns whether there were any.
 fn gather_next<G: Gather, P: Keeper, L: Ledger>(
     alloc: Global,
-    last: Bound,
+    last: &Bound,
     number: &mut u64,
     gathered: &mut G,
     keeper: &mut P,
     steps: &mut Steps<L>,
 ) -> Result<bool, KeeperFault>
     requires ready { IsReady true (P.state keeper.old) }
-    ensures gathers { GathersNext (G.Covers gathered.old last) (G.Covers gathered.new last) result
+    ensures gathers { GathersNext (G.Covers gathered.old last.now) (G.Covers gathered.new last.now) result
         (P.state keeper.old) (P.state keeper.new) number.old number.new steps.old steps.new }
 {
     match keeper.read_all(alloc, *number, PIECE, steps) {
@@ -105,13 +105,13 @@ fn gather_next<G: Gather, P: Keeper, L: Ledger>(
 /// Goes on over all entries that a started keeper stores.
 pub(crate) fn gather_all<G: Gather, P: Keeper, L: Ledger>(
     alloc: Global,
-    last: Bound,
+    last: &Bound,
     gathered: &mut G,
     keeper: &mut P,
     steps: &mut Steps<L>,
 ) -> Result<(), KeeperFault>
     requires readable { IsReadable (P.state keeper.old) }
-    ensures gathers { GathersAll (G.Covers gathered.old last) (G.Covers gathered.new last) result
+    ensures gathers { GathersAll (G.Covers gathered.old last.now) (G.Covers gathered.new last.now) result
         (P.state keeper.old) (P.state keeper.new) steps.old steps.new }
 {
     let mut number = 0;

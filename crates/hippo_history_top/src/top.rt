@@ -84,7 +84,7 @@ fn show_rules<K: Sink, P: Keeper, L: Ledger>(
         (K.faults sink.old) (K.faults sink.new) steps.old steps.new }
 {
     let mut moments = Moments::new(alloc);
-    match gather_all(alloc, page.last, &mut moments, keeper, steps) {
+    match gather_all(alloc, &page.last, &mut moments, keeper, steps) {
         Ok(()) => {
             let cut = write_rules(alloc, page, &state, moments.as_slice(), sink);
             state.close();
@@ -128,7 +128,7 @@ fn show_users<K: Sink, P: Keeper, L: Ledger>(
         (K.faults sink.old) (K.faults sink.new) steps.old steps.new }
 {
     let mut grants = Grants::new(alloc);
-    match gather_all(alloc, roster.last, &mut grants, keeper, steps) {
+    match gather_all(alloc, &roster.last, &mut grants, keeper, steps) {
         Ok(()) => served_or(write_grants(alloc, roster.format, grants.as_slice(), sink)),
         Err(fault) => ending_of(fault),
     }

@@ -162,13 +162,13 @@ impl Grants {
     }
 
     // Goes on over the next entry.
-    fn add(&mut self, alloc: Global, last: Bound, entry: &Entry) -> Result<(), Memory>
+    fn add(&mut self, alloc: Global, last: &Bound, entry: &Entry) -> Result<(), Memory>
         ensures covers { OnOk result ((read : History)
-            → self.old.list.items ≡ grants_of (entries_to last read)
-            → self.new.list.items ≡ grants_of (entries_to last
+            → self.old.list.items ≡ grants_of (entries_to last.now read)
+            → self.new.list.items ≡ grants_of (entries_to last.now
             (read ++ entry.now ∷ []))) }
     {
-        if is_to(last, entry) {
+        if is_to(*last, entry) {
             take_in(alloc, entry, &mut self.list)
         } else {
             Ok(())
@@ -180,7 +180,7 @@ impl Gather for Grants {
     ghost Covers = { λ gathered last read. gathered.list.items
         ≡ grants_of (entries_to last read) };
 
-    fn cover(&mut self, alloc: Global, last: Bound, entry: &Entry) -> Result<(), Memory> {
+    fn cover(&mut self, alloc: Global, last: &Bound, entry: &Entry) -> Result<(), Memory> {
         self.add(alloc, last, entry)
     }
 }
