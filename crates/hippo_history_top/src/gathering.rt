@@ -33,7 +33,8 @@ fn cover_kept<G: Gather>(
     kept: &StoredEntry,
     gathered: &mut G,
 ) -> Result<(), Memory>
-    ensures gathers { OnOk result (Gathers (G.Covers gathered.old last.now) (G.Covers gathered.new last.now)
+    ensures gathers { OnOk result (Gathers (G.Covers gathered.old last.now)
+        (G.Covers gathered.new last.now)
         (kept.now ∷ [])) }
 {
     match decode(alloc, kept) {
@@ -55,7 +56,8 @@ fn cover_piece<G: Gather>(
     number: &mut u64,
     gathered: &mut G,
 ) -> Result<(), Memory>
-    ensures gathers { OnOk result (Gathers (G.Covers gathered.old last.now) (G.Covers gathered.new last.now)
+    ensures gathers { OnOk result (Gathers (G.Covers gathered.old last.now)
+        (G.Covers gathered.new last.now)
         piece.now) }
     ensures last { OnOk result (number.new ≡ last_number number.old piece.now) }
 {
@@ -88,7 +90,8 @@ fn gather_next<G: Gather, P: Keeper, L: Ledger>(
     steps: &mut Steps<L>,
 ) -> Result<bool, KeeperFault>
     requires ready { IsReady true (P.state keeper.old) }
-    ensures gathers { GathersNext (G.Covers gathered.old last.now) (G.Covers gathered.new last.now) result
+    ensures gathers { GathersNext (G.Covers gathered.old last.now)
+        (G.Covers gathered.new last.now) result
         (P.state keeper.old) (P.state keeper.new) number.old number.new steps.old steps.new }
 {
     match keeper.read_all(alloc, *number, PIECE, steps) {
@@ -111,7 +114,8 @@ pub(crate) fn gather_all<G: Gather, P: Keeper, L: Ledger>(
     steps: &mut Steps<L>,
 ) -> Result<(), KeeperFault>
     requires readable { IsReadable (P.state keeper.old) }
-    ensures gathers { GathersAll (G.Covers gathered.old last.now) (G.Covers gathered.new last.now) result
+    ensures gathers { GathersAll (G.Covers gathered.old last.now)
+        (G.Covers gathered.new last.now) result
         (P.state keeper.old) (P.state keeper.new) steps.old steps.new }
 {
     let mut number = 0;

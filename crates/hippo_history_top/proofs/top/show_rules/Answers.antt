@@ -1,4 +1,5 @@
 -- The rules were written down, or the moments of their entries could not be read.
+use Rattle.std.proofs.Common.{◌≡◌}
 use Rattle.hippo_history_top.proofs.GatheredLemmas.{loaded_rules, gathered_nothing}
 use Rattle.hippo_history_top.specs.declared.asking.View.TheVariants.{Rules}
 use Rattle.hippo_history_top.specs.Dating.{moments_of}

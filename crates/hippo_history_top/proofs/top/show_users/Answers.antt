@@ -1,4 +1,5 @@
 -- The authorizations were written down, or the entries that gave them could not be read.
+use Rattle.std.proofs.Common.{◌≡◌}
 use Rattle.hippo_history_top.proofs.GatheredLemmas.{loaded_users, gathered_nothing}
 use Rattle.hippo_history_top.specs.declared.asking.View.TheVariants.{Users}
 use Rattle.hippo_history_top.specs.Dating.{entries_to}
