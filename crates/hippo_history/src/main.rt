@@ -18,6 +18,7 @@ use std::sync::ledger::Ledger;
 
 // The stores in files. The empty name is that of a store in memory. The machine's answer for any
 // other name cannot be foreseen. If the machine gives no answer, opening the store reports why.
+#[derive(Drop)]
 struct FileStores {
     runtime: HostRuntime,
 }
