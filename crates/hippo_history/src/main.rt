@@ -1,5 +1,5 @@
 //! The program. `hippo_history` shows on standard output what a SQLite store holds, as its words
-//! ask: the entries, one by one, the rules in force, or a digest of the entries.
+//! ask: the entries, one by one, the rules or the users in force, or a digest of the entries.
 #![tactic(auto)]
 
 ghost use Rattle.std.specs.Prelude.{◌≡◌, true, []};
@@ -32,8 +32,8 @@ impl Stores for FileStores {
 }
 
 // The program over stores in files. Its exit status is that of `history_top`: 2 only for words that
-// ask for nothing; 3 or 5 exactly when the keeper or the sink failed. `Answers` does not speak of
-// 3.
+// ask for nothing; 3 if the keeper failed or there is no such store; 5 exactly when the sink failed.
+// `Answers` does not speak of 3.
 struct History;
 
 impl Program for History {
