@@ -31,6 +31,12 @@ pub refusal-listed : (ending : Ending) (status : ℕ) (line : Txt) (written writ
 refusal-listed ending status line written written' faults faults' (inl all) e = (1, 2, omega arith, refl, e ∙ ap status_of all.0)
 refusal-listed ending status line written written' faults faults' (inr front) e = (3, 5, omega arith, refl, e ∙ ap status_of front.0)
 
+-- so is the status when there is no store
+pub missing-listed : (ending : Ending) (status : ℕ) (line : Txt) (written written' : Option Txt) (faults faults' : ℕ) → Says KeeperFault line WriteFault ending written written' faults faults' → status ≡ status_of ending
+    → Any (λ listed. status ≡ listed) showing_statuses
+missing-listed ending status line written written' faults faults' (inl all) e = (2, 3, omega arith, refl, e ∙ ap status_of all.0)
+missing-listed ending status line written written' faults faults' (inr front) e = (3, 5, omega arith, refl, e ∙ ap status_of front.0)
+
 -- the result of showing, by its status
 module _ (view : View) (name : Txt) (before after : KeeperState) (written written' : Option Txt) (unwritten : Type 0) where
   abbrev pub ByStatus : ℕ → Type 0

@@ -2,9 +2,11 @@
 ghost use Rattle.std.specs.Prelude.{◌≡◌, true, [], ◌∷◌, ◌++◌, OnOk};
 ghost use Rattle.hippo_model.specs.Terms.{History};
 ghost use Rattle.hippo_keeper.specs.Keeping.{last_number, IsReady};
+ghost use Rattle.hippo_history_top.specs.declared.asking.Bound.{Bound as End};
 ghost use Rattle.hippo_history_top.specs.Progress.{IsReadable};
 ghost use Rattle.hippo_history_top.specs.Gathering.{Gathers, reading_of, GathersNext, GathersAll};
 
+use crate::asking::Bound;
 use crate::showing::PIECE;
 use hippo_entry::decode;
 use hippo_keeper::{CountedKeeper, KeeperFault, Steps};
@@ -15,23 +17,29 @@ use std::sync::ledger::Ledger;
 
 /// What is gathered from entries, one after another.
 pub(crate) trait Gather {
-    // Whether this is what is gathered from exactly these entries.
-    ghost Covers: { Self → History → Type 0 };
+    // Whether this is what is gathered from exactly these entries, up to this bound.
+    ghost Covers: { Self → End → History → Type 0 };
 
     /// Goes on over the next entry.
-    fn cover(&mut self, alloc: Global, entry: &Entry) -> Result<(), Memory>
-        ensures covers { OnOk result ((read : History) → Covers self.old read
-            → Covers self.new (read ++ entry.now ∷ [])) };
+    fn cover(&mut self, alloc: Global, last: &Bound, entry: &Entry) -> Result<(), Memory>
+        ensures covers { OnOk result ((read : History) → Covers self.old last.now read
+            → Covers self.new last.now (read ++ entry.now ∷ [])) };
 }
 
 // Goes on over the entry that has this stored form. In a store that was loaded there is one.
-fn cover_kept<G: Gather>(alloc: Global, kept: &StoredEntry, gathered: &mut G) -> Result<(), Memory>
-    ensures gathers { OnOk result (Gathers (G.Covers gathered.old) (G.Covers gathered.new)
+fn cover_kept<G: Gather>(
+    alloc: Global,
+    last: &Bound,
+    kept: &StoredEntry,
+    gathered: &mut G,
+) -> Result<(), Memory>
+    ensures gathers { OnOk result (Gathers (G.Covers gathered.old last.now)
+        (G.Covers gathered.new last.now)
         (kept.now ∷ [])) }
 {
     match decode(alloc, kept) {
         Ok(Some(entry)) => {
-            let covered = gathered.cover(alloc, &entry);
+            let covered = gathered.cover(alloc, last, &entry);
             drop(entry);
             covered
         }
@@ -43,16 +51,18 @@ fn cover_kept<G: Gather>(alloc: Global, kept: &StoredEntry, gathered: &mut G) ->
 // Goes on over the entries of a piece.
 fn cover_piece<G: Gather>(
     alloc: Global,
+    last: &Bound,
     piece: &[StoredEntry],
     number: &mut u64,
     gathered: &mut G,
 ) -> Result<(), Memory>
-    ensures gathers { OnOk result (Gathers (G.Covers gathered.old) (G.Covers gathered.new)
+    ensures gathers { OnOk result (Gathers (G.Covers gathered.old last.now)
+        (G.Covers gathered.new last.now)
         piece.now) }
     ensures last { OnOk result (number.new ≡ last_number number.old piece.now) }
 {
     for kept in piece {
-        match cover_kept(alloc, kept, gathered) {
+        match cover_kept(alloc, last, kept, gathered) {
             Ok(()) => *number = kept.seq,
             Err(Memory) => return Err(Memory),
         }
@@ -73,19 +83,21 @@ fn reading_of(covered: Result<(), Memory>, any: bool) -> Result<bool, KeeperFaul
 // Reads the next piece and goes on over its entries. Returns whether there were any.
 fn gather_next<G: Gather, P: CountedKeeper<L>, L: Ledger>(
     alloc: Global,
+    last: &Bound,
     number: &mut u64,
     gathered: &mut G,
     keeper: &mut P,
     steps: &mut Steps<L>,
 ) -> Result<bool, KeeperFault>
     requires ready { IsReady true (P.state keeper.old) }
-    ensures gathers { GathersNext (G.Covers gathered.old) (G.Covers gathered.new) result
+    ensures gathers { GathersNext (G.Covers gathered.old last.now)
+        (G.Covers gathered.new last.now) result
         (P.state keeper.old) (P.state keeper.new) number.old number.new steps.old steps.new }
 {
     match keeper.read_all(alloc, *number, PIECE, steps) {
         Ok(piece) => {
             let any = !piece.is_empty();
-            let covered = cover_piece(alloc, piece.as_slice(), number, gathered);
+            let covered = cover_piece(alloc, last, piece.as_slice(), number, gathered);
             drop(piece);
             reading_of(covered, any)
         }
@@ -96,17 +108,19 @@ fn gather_next<G: Gather, P: CountedKeeper<L>, L: Ledger>(
 /// Goes on over all entries that a started keeper stores.
 pub(crate) fn gather_all<G: Gather, P: CountedKeeper<L>, L: Ledger>(
     alloc: Global,
+    last: &Bound,
     gathered: &mut G,
     keeper: &mut P,
     steps: &mut Steps<L>,
 ) -> Result<(), KeeperFault>
     requires readable { IsReadable (P.state keeper.old) }
-    ensures gathers { GathersAll (G.Covers gathered.old) (G.Covers gathered.new) result
+    ensures gathers { GathersAll (G.Covers gathered.old last.now)
+        (G.Covers gathered.new last.now) result
         (P.state keeper.old) (P.state keeper.new) steps.old steps.new }
 {
     let mut number = 0;
     loop {
-        match gather_next(alloc, &mut number, gathered, keeper, steps) {
+        match gather_next(alloc, last, &mut number, gathered, keeper, steps) {
             Ok(true) => {}
             Ok(false) => return Ok(()),
             Err(fault) => return Err(fault),

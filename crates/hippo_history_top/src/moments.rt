@@ -42,9 +42,9 @@ impl Moments {
 }
 
 impl Gather for Moments {
-    ghost Covers = { λ gathered read. gathered.list ≡ moments_of read };
+    ghost Covers = { λ gathered last read. gathered.list ≡ moments_of read };
 
-    fn cover(&mut self, _alloc: Global, entry: &Entry) -> Result<(), Memory> {
+    fn cover(&mut self, _alloc: Global, _last: &Bound, entry: &Entry) -> Result<(), Memory> {
         self.add(entry)
     }
 }

@@ -11,6 +11,7 @@ use std::sync::ledger::Ledger;
 
 /// The program `hippo_history`: [`history_top`] on a host, and what tells which stores there are.
 /// It reads no input.
+#[derive(Drop)]
 pub struct History<D: Stores> {
     pub stores: D,
 }

@@ -85,7 +85,7 @@ fn show_rules<K: Sink, P: CountedKeeper<L>, L: Ledger>(
         (K.faults sink.old) (K.faults sink.new) steps.old steps.new }
 {
     let mut moments = Moments::new(alloc);
-    match gather_all(alloc, &mut moments, keeper, steps) {
+    match gather_all(alloc, &page.last, &mut moments, keeper, steps) {
         Ok(()) => {
             let cut = write_rules(alloc, page, &state, moments.as_slice(), sink);
             state.close();
@@ -128,8 +128,8 @@ fn show_users<K: Sink, P: CountedKeeper<L>, L: Ledger>(
         (P.state keeper.old) (P.state keeper.new) (K.written sink.old) (K.written sink.new)
         (K.faults sink.old) (K.faults sink.new) steps.old steps.new }
 {
-    let mut grants = Grants::new(alloc, roster.last);
-    match gather_all(alloc, &mut grants, keeper, steps) {
+    let mut grants = Grants::new(alloc);
+    match gather_all(alloc, &roster.last, &mut grants, keeper, steps) {
         Ok(()) => served_or(write_grants(alloc, roster.format, grants.as_slice(), sink)),
         Err(fault) => ending_of(fault),
     }

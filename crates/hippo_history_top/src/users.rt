@@ -14,10 +14,9 @@ use hippo_report::Format;
 use hippo_values::{Duplicate, Memory, Name, Txt};
 use std::alloc::Global;
 
-/// The authorizations that are in force after the entries up to a bound.
+/// Authorizations that are in force.
 #[derive(Drop)]
 pub(crate) struct Grants {
-    last: Bound,
     list: Vec<Grant>,
 }
 
@@ -148,12 +147,10 @@ fn take_in(alloc: Global, entry: &Entry, list: &mut Vec<Grant>) -> Result<(), Me
 
 impl Grants {
     /// No authorizations. Allocates nothing.
-    pub(crate) fn new(alloc: Global, last: Bound) -> Grants
-        ensures last { result.last ≡ last }
-        ensures list { result.list.items ≡ [] }
+    pub(crate) fn new(alloc: Global) -> Grants
+        ensures { result.list.items ≡ [] }
     {
         Grants {
-            last,
             list: Vec::new(alloc),
         }
     }
@@ -165,13 +162,13 @@ impl Grants {
     }
 
     // Goes on over the next entry.
-    fn add(&mut self, alloc: Global, entry: &Entry) -> Result<(), Memory>
+    fn add(&mut self, alloc: Global, last: &Bound, entry: &Entry) -> Result<(), Memory>
         ensures covers { OnOk result ((read : History)
-            → self.old.list.items ≡ grants_of (entries_to self.old.last read)
-            → self.new.list.items ≡ grants_of (entries_to self.new.last
+            → self.old.list.items ≡ grants_of (entries_to last.now read)
+            → self.new.list.items ≡ grants_of (entries_to last.now
             (read ++ entry.now ∷ []))) }
     {
-        if is_to(self.last, entry) {
+        if is_to(*last, entry) {
             take_in(alloc, entry, &mut self.list)
         } else {
             Ok(())
@@ -180,11 +177,11 @@ impl Grants {
 }
 
 impl Gather for Grants {
-    ghost Covers = { λ gathered read. gathered.list.items
-        ≡ grants_of (entries_to gathered.last read) };
+    ghost Covers = { λ gathered last read. gathered.list.items
+        ≡ grants_of (entries_to last read) };
 
-    fn cover(&mut self, alloc: Global, entry: &Entry) -> Result<(), Memory> {
-        self.add(alloc, entry)
+    fn cover(&mut self, alloc: Global, last: &Bound, entry: &Entry) -> Result<(), Memory> {
+        self.add(alloc, last, entry)
     }
 }
 

@@ -9,6 +9,7 @@ use hippo_values::Txt;
 use std::sync::ledger::Ledger;
 
 /// The program `hippo`: [`hippo_top`] on a host.
+#[derive(Clone, Copy)]
 pub struct Hippo;
 
 impl Program for Hippo {

@@ -2,13 +2,16 @@
 //! status is the number of the words, or 255 if a write fails.
 #![tactic(auto)]
 
-ghost use Rattle.std.specs.Prelude.{◌≡◌, ◌⊎◌, IfOk, length, min};
+ghost use Rattle.std.specs.Prelude.{◌≡◌, ◌⊎◌, ◌<◌, IfOk, false, length, min};
+ghost use Rattle.hippo_keeper.specs.Keeping.{IsReady};
+ghost use Rattle.hippo_keeper.specs.MemoryKeeping.{memory_keeper_state};
 
 use hippo_io::{Failed, Sink, Source, write_whole};
 use hippo_keeper::{CountedKeeper, KeeperFails, MemoryKeeper};
 use hippo_program_start::{Ended, Host, Program, start};
 use hippo_values::Txt;
 use std::marker::Brand;
+use std::rt::HostRuntime;
 use std::sync::ledger::{Blank, Ledger};
 
 // Writes each word on a line, and returns how many there are.
@@ -24,6 +27,7 @@ fn say_words<K: Sink>(words: &[Txt], sink: &mut K) -> Result<u8, Failed>
     Ok(count)
 }
 
+#[derive(Clone, Copy)]
 struct Echo;
 
 impl Program for Echo {
@@ -39,7 +43,17 @@ impl Program for Echo {
     }
 }
 
+// The program counts its steps in a ledger that nothing else uses.
+fn begin<L: Ledger>(rt: HostRuntime, keeper: MemoryKeeper, blank: Blank) -> Ended<MemoryKeeper>
+    requires ready { IsReady false (memory_keeper_state keeper) }
+    requires name { blank.name ≡ L.name }
+    requires parts { blank.parts ≡ L.parts }
+    requires some { 0 < blank.parts }
+{
+    start::<Echo, MemoryKeeper, L>(rt, &Echo, keeper, blank)
+}
+
 fn main(rt: HostRuntime) -> Ended<MemoryKeeper> {
     let keeper = MemoryKeeper::new(rt.alloc(), KeeperFails::new(rt.alloc()));
-    start::<Echo, MemoryKeeper, Brand>(rt, &Echo, keeper, Blank::new(1))
+    begin::<Brand>(rt, keeper, Blank::new(1))
 }

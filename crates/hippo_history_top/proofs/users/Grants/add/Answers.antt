@@ -7,11 +7,11 @@ use Rattle.hippo_history_top.proofs.users.Grants.add.Goals as goal
 pub returns-then-is_to : goal.returns-then-is_to
 returns-then-is_to c = record {
   covers = ok_so c.take_in.result
-      (λ taken read so. taken ∙ grants-within c.args.self.now.last read c.args.entry.now c.args.self.now.list.items so (sym c.if-is_to.ensures))
+      (λ taken read so. taken ∙ grants-within c.args.last.now read c.args.entry.now c.args.self.now.list.items so (sym c.if-is_to.ensures))
       c.take_in.ensures;
 }
 
 pub returns-else-is_to : goal.returns-else-is_to
 returns-else-is_to c = record {
-  covers = λ read so. grants-past c.args.self.now.last read c.args.entry.now c.args.self.now.list.items so (sym c.if-is_to.ensures);
+  covers = λ read so. grants-past c.args.last.now read c.args.entry.now c.args.self.now.list.items so (sym c.if-is_to.ensures);
 }
