@@ -3,20 +3,17 @@
 //! entries.
 #![tactic(auto)]
 
-ghost use Rattle.std.specs.Prelude.{◌≡◌, ◌<◌, true, false, []};
-ghost use Rattle.hippo_keeper.specs.Keeping.{IsReady};
+ghost use Rattle.std.specs.Prelude.{◌≡◌, ◌<◌, true, []};
 
 use hippo_history_top::{History, Stores};
-use hippo_keeper::Keeper;
-use hippo_program_start::{Ended, start};
+use hippo_program_start::start;
 use hippo_sqlite_files::FileKeeper;
-use sqlite_disk::Unknown;
+use sqlite_disk::{Start, Unknown};
 use std::marker::Brand;
 use std::path::Path;
+use std::process::{ExitCode, Termination};
 use std::rt::HostRuntime;
 use std::sync::ledger::{Blank, Ledger};
-
-type Files = FileKeeper<Unknown>;
 
 // The stores in files. The empty name is that of a store in memory. The machine's answer for any
 // other name cannot be foreseen. If the machine gives no answer, opening the store reports why.
@@ -33,27 +30,24 @@ impl Stores for FileStores {
     }
 }
 
-// The program counts its steps in a ledger that nothing else uses.
-fn begin<L: Ledger>(
-    rt: HostRuntime,
-    history: &History<FileStores>,
-    keeper: Files,
-    blank: Blank,
-) -> Ended<Files>
-    requires ready { IsReady false (⟦<FileKeeper<Unknown> as Keeper>⟧.state keeper) }
+// Runs the program over the files that `B` describes. Its steps are counted in a ledger that
+// nothing else uses.
+fn begin<B: Start, L: Ledger>(rt: HostRuntime, files: B, blank: Blank) -> ExitCode
     requires name { blank.name ≡ L.name }
     requires parts { blank.parts ≡ L.parts }
     requires some { 0 < blank.parts }
 {
-    start::<History<FileStores>, Files, L>(rt, history, keeper, blank)
+    let history = History {
+        stores: FileStores { runtime: rt },
+    };
+    let keeper = FileKeeper::new(rt, files);
+    let ended = start::<History<FileStores>, FileKeeper<B>, L>(rt, &history, keeper, blank);
+    ended.report(&rt)
 }
 
 // `Unknown` leaves open what the files hold. It supposes that when a power cut interrupts a write,
 // the disk leaves each byte of the written range either old or new, and all other bytes unchanged.
 // Most commits therefore sync once.
-fn main(rt: HostRuntime) -> Ended<Files> {
-    let history = History {
-        stores: FileStores { runtime: rt },
-    };
-    begin::<Brand>(rt, &history, FileKeeper::new(rt, Unknown), Blank::new(1))
+fn main(rt: HostRuntime) -> ExitCode {
+    begin::<Unknown, Brand>(rt, Unknown, Blank::new(1))
 }
