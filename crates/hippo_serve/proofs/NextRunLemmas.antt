@@ -7,7 +7,7 @@ use Rattle.sqlite_store.specs.declared.store.FileStore.{FileStore}
 use Rattle.sqlite_store.specs.FileStore.{view}
 use Rattle.sqlite_trees.specs.View.{IsClean}
 use Rattle.hippo_model.specs.Terms.{History}
-use Rattle.hippo_keeper.specs.Keeping.{KeeperState}
+use Rattle.hippo_keeper.specs.Keeping.{KeeperState, Survivors}
 use Rattle.hippo_serve_jobs.specs.Keeping.{KeepsHistory, KeepsEither}
 use Rattle.hippo_sqlite.specs.Leaving.{MayBeLeft, LeavesSurvivors}
 use Rattle.hippo_serve.specs.NextRun.{FilesHold, FilesHoldEither}
@@ -23,7 +23,8 @@ module _ {D : Type 0} {g : Ghosts D} (keeper : KeeperState) where
   holds_either None leaves = tt
   holds_either (Some it) leaves = λ image may history longer keeps name store some found. ∥∥₁_map (leaves.only image may name store some found) (keeps.alone store)
 
-  pub holds_some : (given : Option (FileStore D g)) → IfSome given (LeavesSurvivors keeper.survives)
+module _ {D : Type 0} {g : Ghosts D} (survives : Survivors) where
+  pub holds_some : (given : Option (FileStore D g)) → IfSome given (LeavesSurvivors survives)
       → IfSome given (λ it. IsClean (view it) → ∥ ((image : Image) × MayBeLeft it image) ∥₁)
   holds_some None leaves = tt
   holds_some (Some it) leaves = leaves.some
