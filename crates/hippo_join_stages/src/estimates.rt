@@ -9,8 +9,8 @@ use hippo_tables_rows::{Bound, RowSet};
 use hippo_values::{Memory, Value};
 use std::alloc::Global;
 
-// At or below this many rows, no other access path is counted. One in so many rows of a table is
-// taken to have a value of a column that the table is not ordered by.
+// At or below this many rows, no other access path is counted. Where a table is not ordered by a
+// column, one row of this many is expected to have a given value of it.
 const FEW: usize = 16;
 
 // The number of rows that have a value in a column, if the table is ordered by it.

@@ -28,7 +28,7 @@ const BY_FRONT: usize = 8;
 
 const BY_ORDER: usize = 16;
 
-// One in so many rows is taken to have the value of a tie.
+// One row of this many is expected to have the value of a tie.
 const SHARE: usize = 16;
 
 // At or below this many rows, the rows of an only table are tested during the scan, not before.

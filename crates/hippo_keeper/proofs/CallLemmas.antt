@@ -20,7 +20,7 @@ KeepsSame-then first second third one other = record {
 pub KeepsSame-Stays : (before after : KeeperState) → Stays before after → KeepsSame before after
 KeepsSame-Stays before after stays = record { same = stays.same; stop = stays.stop; some = λ some. stays.some }
 
--- nothing happens to a keeper that tells where it has to
+-- a keeper that meets HasToTell and stays as it was keeps telling
 pub KeepsTelling-here : (keeper : KeeperState) → HasToTell keeper → KeepsTelling keeper keeper
 KeepsTelling-here keeper has_to = record { clean = λ clean. clean; own = λ own. own; memory = λ memory. memory; has_to = has_to }
 

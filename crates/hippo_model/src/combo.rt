@@ -3,7 +3,7 @@ ghost use Rattle.std.specs.Prelude.{◌≡◌, ◌<◌, ◌-◌, ◌↔◌, [], 
 
 use crate::cells::Cells;
 use crate::schema::Places;
-use hippo_values::{Memory, Moment, Name, Sequence};
+use hippo_values::{Memory, Moment, Name};
 use std::alloc::Global;
 use std::marker::Model;
 
@@ -12,9 +12,6 @@ use std::marker::Model;
 pub struct Plan {
     pub order: Places,
 }
-
-/// The number of rows of each of a query's tables, in the order of FROM.
-pub type Sizes = Sequence<u64>;
 
 /// The choices of patients on items.
 pub trait ChoiceView {

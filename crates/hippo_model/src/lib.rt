@@ -19,7 +19,7 @@ mod wanted;
 pub use audit::{Audit, Flag, Flags, Pair, Pairs, SharedRow, SharedTuple};
 pub use born_row::BornRow;
 pub use cells::{Answer, Cell, CellRow, Cells, copied_key};
-pub use combo::{ChoiceView, Combo, Plan, Sizes};
+pub use combo::{ChoiceView, Combo, Plan};
 pub use entry::{Act, Entry, History, ItemKind};
 pub use lent::{Lent, LentSchemas};
 pub use name_fault::NameFault;

@@ -12,8 +12,7 @@ use std::process::{ExitCode, Termination};
 use std::sync::ledger::Ledger;
 
 /// How a program ended: its exit status, its standard streams and its keeper. Only
-/// [`start`](crate::start) makes one, so a `main` that returns one cannot end with a status of its
-/// own.
+/// [`start`](crate::start) makes one. A `main` that reports it ends with its status.
 #[derive(Drop)]
 pub struct Ended<P> {
     pub(crate) status: u8,
