@@ -1,2 +1,0 @@
-pub mod Removing
-pub mod Removals
