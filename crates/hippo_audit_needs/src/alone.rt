@@ -16,7 +16,7 @@ ghost use Rattle.hippo_audit_needs.specs.AloneRows.{AreMarked, mark_at};
 use hippo_audit_common::common_places;
 use hippo_audit_search::{Compared, Mark, audit_has_any, first_of, know_order, row_places};
 use hippo_eval::{Onward, Visitor, passes, project};
-use hippo_join::walk_joined;
+use hippo_join::{visit_by_plan, walk_joined};
 use hippo_model::{Cell, CellRow, ChoiceView, Combo, Masked, Places, SharedTuple};
 use hippo_tables_rows::Sets;
 use hippo_values::{Memory, Sequence};
@@ -89,6 +89,10 @@ fn row_marks<C: ChoiceView>(
         choices: &*choices,
     };
     let mut marks = BTreeMap::new(alloc);
+    if visit_by_plan(alloc, query, sets, choices, &marker, &mut marks)? {
+        return Ok(marks);
+    }
+    let mut marks = BTreeMap::new(alloc);
     walk_joined(alloc, query, sets, choices, &marker, &mut marks)?;
     Ok(marks)
 }
@@ -114,8 +118,9 @@ fn alone(alloc: Global, marks: BTreeMap<CellRow, Mark>) -> Result<BTreeSet<Place
 /// expression of `seen` is a shown cell. It must also be in a combination of the audit's rows of
 /// which the audit's condition is true. The requirements are those of `first_shared`.
 ///
-/// The time is that of `walk_joined` over the query's rows, unless no combination of the audit's
-/// rows counts. The memory is proportional to the number of different rows.
+/// The time is that of the query's own answer, unless no combination of the audit's rows counts.
+/// The memory is proportional to the number of different rows, apart from what `visit_by_plan`
+/// holds.
 pub(crate) fn first_alone<C: ChoiceView>(
     alloc: Global,
     compared: &Compared<'_, C>,

@@ -20,8 +20,8 @@ use std::alloc::Global;
 /// The rows must be those of each side's tables, in the order of FROM. A table that both have must
 /// have the same rows on both. The audit must not name a table twice.
 ///
-/// The memory is proportional to the number of groups. The time is that of `walk_joined` over the
-/// query's rows, unless no combination of the audit's rows counts.
+/// The memory is proportional to the number of groups, apart from what `visit_by_plan` holds. The
+/// time is that of the query's own answer, unless no combination of the audit's rows counts.
 pub(crate) fn first_needed_by_groups<C: ChoiceView>(
     alloc: Global,
     shape: &Shape,

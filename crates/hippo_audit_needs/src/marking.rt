@@ -13,7 +13,7 @@ use crate::group_marks::{GroupMarks, candidates, join_at, marks_of_first};
 use hippo_audit_search::row_places;
 use hippo_eval::{Onward, Visitor, passes, project};
 use hippo_groups::{front, into_front};
-use hippo_join::walk_joined;
+use hippo_join::{visit_by_plan, walk_joined};
 use hippo_model::{Cell, CellRow, ChoiceView, Combo, Masked, Places, Shape};
 use hippo_tables_rows::Sets;
 use hippo_values::Memory;
@@ -128,6 +128,10 @@ pub(crate) fn marked_groups<C: ChoiceView>(
         tables,
         choices,
     };
+    let mut groups = MarkedGroups::new(alloc);
+    if visit_by_plan(alloc, query, sets, choices, &marker, &mut groups)? {
+        return Ok(groups);
+    }
     let mut groups = MarkedGroups::new(alloc);
     walk_joined(alloc, query, sets, choices, &marker, &mut groups)?;
     Ok(groups)

@@ -15,6 +15,6 @@ pub use existence::has;
 pub use gathering::gather_joined;
 pub use joins::{blank_row, run};
 pub use orders::{order_after, plan};
-pub use planned::visit_planned;
+pub use planned::{visit_by_plan, visit_planned};
 pub use settling::{few_places, has_joined, settled};
 pub use visiting::walk_joined;

@@ -1,5 +1,5 @@
 //! Visits the combinations that a planned join finds, in the order of the product.
-ghost use Rattle.std.specs.Prelude.{◌≡◌, ◌<◌, true, List, length, map, slice_get};
+ghost use Rattle.std.specs.Prelude.{◌≡◌, ◌<◌, ◌++◌, true, List, length, map, slice_get, IfOk, IsTrue};
 ghost use Rattle.std.specs.List.{All, Contains};
 ghost use Rattle.hippo_model.specs.Terms.{Combination, Place};
 ghost use Rattle.hippo_model.specs.Answers.{product};
@@ -11,7 +11,7 @@ ghost use Rattle.hippo_join.specs.Plans.{IsPlanOf, KeptWithin};
 
 use crate::finding::PlaceFinder;
 use crate::joins::{blank_row, side_of};
-use crate::orders::is_in_order;
+use crate::orders::{is_in_order, plan};
 use crate::visiting::walk_joined;
 use crate::walking::walk_all;
 use hippo_eval::{ANSWER_LIMIT, EvalFault, Onward, Visitor};
@@ -144,4 +144,35 @@ pub fn visit_planned<C: ChoiceView, V: Visitor>(
     let blank = blank_row(alloc)?;
     let side = side_of(query, sets, choices, &blank);
     visit_ordered(plan.order.as_slice(), &side, alloc, visitor, state)
+}
+
+/// Visits each qualifying combination of a query, as `walk_joined` does, with the tables joined in
+/// an order that `plan` chooses. Returns whether it did. It did not if more than 100,000
+/// combinations qualify and the order is not that of FROM, or if there are no rows for some table;
+/// then nothing is said of the state.
+pub fn visit_by_plan<C: ChoiceView, V: Visitor>(
+    alloc: Global,
+    query: &Masked,
+    sets: &Sets<'_>,
+    choices: &C,
+    visitor: &V,
+    state: &mut V::State,
+) -> Result<bool, Memory>
+    ensures { (before : List Combination) → V.Keeps visitor.now before state.old
+        → IfOk result (λ visited. IsTrue visited → V.Keeps visitor.now (before
+        ++ counting (C.choices choices.now) query.now (product (rows_of sets.now))) state.new) }
+{
+    if sets.len() < 2 {
+        walk_joined(alloc, query, sets, choices, visitor, state)?;
+        return Ok(true);
+    }
+    if sets.len() != query.tables.len() {
+        return Ok(false);
+    }
+    let plan = plan(alloc, query, sets, choices)?;
+    match visit_planned(alloc, &plan, query, sets, choices, visitor, state) {
+        Ok(()) => Ok(true),
+        Err(EvalFault::TooManyRows) => Ok(false),
+        Err(EvalFault::Memory) => Err(Memory),
+    }
 }

@@ -1,4 +1,4 @@
--- The walk begins with no row, and visits the combinations of the answer.
+-- The visit begins with no row, and visits the combinations of the answer.
 use Rattle.std.proofs.Common.{[], List, subst}
 use Rattle.hippo_model.specs.Terms.{ShownRow}
 use Rattle.hippo_eval.specs.Gathering.{IsGathered}
@@ -6,10 +6,10 @@ use Rattle.hippo_eval.proofs.FoundLemmas.{gathered-none}
 use Rattle.hippo_join.proofs.GatheringLemmas.{counted-answer}
 use Rattle.hippo_join.proofs.gathering.gather_joined.Goals as goal
 
-pub returns : goal.returns
-returns g c =
+pub returns-then-branch : goal.returns-then-branch
+returns-then-branch g c =
     let Holds = g.G.Gatherer.Holds c.args.gatherer.now in
     let answer = g.G.Gatherer.answer c.args.gatherer.now in
-    let counted = c.in_ok-walk_joined.ensures [] (gathered-none Holds answer c.args.limit c.start-rows.result c.start-rows.ensures) in
+    let counted = c.in_ok-visit_by_plan.ensures [] (gathered-none Holds answer c.args.limit c.start-rows.result c.start-rows.ensures) c.if-branch.true in
     c.answered.ensures _
-    (subst (λ (found : List ShownRow). IsGathered Holds answer c.args.limit found c.walk_joined.new.state) (counted-answer (g.C.ChoiceView.choices c.args.choices.now) c.args.query.now c.args.sets.now) counted)
+    (subst (λ (found : List ShownRow). IsGathered Holds answer c.args.limit found c.visit_by_plan.new.state) (counted-answer (g.C.ChoiceView.choices c.args.choices.now) c.args.query.now c.args.sets.now) counted)
