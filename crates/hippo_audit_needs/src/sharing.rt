@@ -1,5 +1,7 @@
 //! The first virtual tuple that serves, over given rows.
 ghost use Rattle.std.specs.Prelude.{◌≡◌, IfOk, map};
+ghost use Rattle.hippo_join_implied.specs.Implied.{query_with_implied};
+ghost use Rattle.hippo_rewrite.specs.Rewriting.{rewritten_query};
 ghost use Rattle.hippo_audit_search.specs.Audited.{HasRowsFor};
 ghost use Rattle.hippo_audit_search.specs.Comparing.{HaveRows, needed_between};
 ghost use Rattle.hippo_audit_needs.specs.Seen.{column_in_query, required_shown};
@@ -10,7 +12,10 @@ use crate::changing::first_needed_by_groups;
 use crate::laws::needed_serves_first;
 use hippo_audit_common::place_in;
 use hippo_audit_search::{Audited, Compared, first_shared};
-use hippo_model::{Audit, ChoiceView, Exprs, Form, Query, Ref, Refs, RulesInForce, SharedTuple};
+use hippo_join_implied::add_implied;
+use hippo_model::{
+    Audit, ChoiceView, Exprs, Form, Masked, Query, Ref, Refs, RulesInForce, SharedTuple,
+};
 use hippo_rewrite::{mask_columns, rewrite};
 use hippo_tables_rows::Sets;
 use hippo_values::{Memory, Name, Sequence};
@@ -57,6 +62,16 @@ pub fn required_shown(
     }
     let columns = columns_in(alloc, query.tables.as_slice(), audit)?;
     mask_columns(alloc, &columns, rules)
+}
+
+// The query with the rules written into it, and with what its condition then implies.
+fn rewritten(alloc: Global, query: &Query, rules: &RulesInForce) -> Result<Masked, Memory>
+    ensures { IfOk result (λ made. made
+        ≡ query_with_implied (rewritten_query rules.now query.now)) }
+{
+    let mut masked = rewrite(alloc, query, rules)?;
+    add_implied(alloc, &mut masked.cond)?;
+    Ok(masked)
 }
 
 // The first tuple that a query of this form needs and the audit has.
@@ -111,7 +126,7 @@ pub fn shared_of<C: ChoiceView>(
         choices: &*choices,
     };
     let seen = required_shown(alloc, query, audit, rules)?;
-    let masked = rewrite(alloc, query, rules)?;
+    let masked = rewritten(alloc, query, rules)?;
     let compared = Compared {
         query: &masked,
         seen: &seen,

@@ -33,7 +33,7 @@ use Rattle.hippo_audit_search.specs.Searching.{SharedBy}
 use Rattle.hippo_audit_search.specs.Sides.{common_in, AreSidesOf, RepresentsAudit}
 use Rattle.hippo_audit_search.proofs.CommonLemmas.{place-found, common-in-query, common-in-audit, common-distinct, common-open}
 use Rattle.hippo_audit_search.proofs.FirstLemmas.{find-map, find-first, find-none, first-holds}
-use Rattle.hippo_audit_search.proofs.SideLemmas.{one-of-product, any-of-product, share-both, both-share, one-agrees, agrees-one, counts-parts, parts-counted, unmasked_query, passes-unmasked_operand}
+use Rattle.hippo_audit_search.proofs.SideLemmas.{one-of-product, any-of-product, share-both, both-share, one-agrees, agrees-one, counts-parts, parts-counted, implied_query, passes-implied_query}
 use Rattle.hippo_audit_search.proofs.TupleLemmas.{AllStandIn, tuples-by-places, agrees-from-tuple, tuple-from-agrees, agrees-in-range}
 
 length_map : {A B : Type 0} (f : A → B) (xs : List A) → length (map f xs) ≡ length xs
@@ -119,7 +119,7 @@ module _ (choices : Choices) (query : Masked) (audit : Audit) (seen : List Expr)
   QueryHas slots = HasOne choices query seen query_sets slots
 
   abbrev AuditHas : List (Option Place) → Type 0
-  AuditHas slots = HasOne choices (unmasked_query audit.cond) [] audit_sets slots
+  AuditHas slots = HasOne choices (implied_query audit.cond) [] audit_sets slots
 
   abbrev Holds : List Place → Type 0
   Holds given = ShareAt QueryHas AuditHas query_places audit_places (replicate (length query_sets) None) (replicate (length audit_sets) None) given
@@ -148,8 +148,8 @@ module _ (choices : Choices) (query : Masked) (audit : Audit) (seen : List Expr)
   own_rows : AllByRecursion (λ table. rows_named audit.tables audit_sets table ≡ rows_named audit.tables audit_sets table) common
   own_rows = each_itself (rows_named audit.tables audit_sets) common
 
-  audit_counts : (rows : Combination) → passes audit.cond (all_shown rows) ≡ (is_guarded choices (unmasked_query audit.cond) rows && masked_passes choices (unmasked_query audit.cond) rows && are_shown choices [] rows)
-  audit_counts rows = sym (passes-unmasked_operand choices audit.cond rows) ∙ and_true (masked_passes choices (unmasked_query audit.cond) rows)
+  audit_counts : (rows : Combination) → passes audit.cond (all_shown rows) ≡ (is_guarded choices (implied_query audit.cond) rows && masked_passes choices (implied_query audit.cond) rows && are_shown choices [] rows)
+  audit_counts rows = sym (passes-implied_query choices audit.cond rows) ∙ and_true (masked_passes choices (implied_query audit.cond) rows)
 
   so : (given : List Place) → Holds given → shares (shared_at given) ≡ true
   so given holds =
@@ -157,7 +157,7 @@ module _ (choices : Choices) (query : Masked) (audit : Audit) (seen : List Expr)
       let long = both.0 ∙ length_map (place_in query.tables) common in
       let first = side-so choices query seen query.tables query_sets audit.tables audit_sets common long_query long_audit in_query in_audit apart same_rows
       (λ rows. is_guarded choices query rows && masked_passes choices query rows && are_shown choices seen rows) (λ rows. refl) given long both.1 in
-      let second = side-so choices (unmasked_query audit.cond) [] audit.tables audit_sets audit.tables audit_sets common long_audit long_audit in_audit in_audit apart own_rows
+      let second = side-so choices (implied_query audit.cond) [] audit.tables audit_sets audit.tables audit_sets common long_audit long_audit in_audit in_audit apart own_rows
       (λ rows. passes audit.cond (all_shown rows)) audit_counts given long both.2 in
       λ i. first i && second i
 
@@ -165,9 +165,9 @@ module _ (choices : Choices) (query : Masked) (audit : Audit) (seen : List Expr)
   within given holds =
       let both = share-both QueryHas AuditHas query_places audit_places (replicate (length query_sets) None) (replicate (length audit_sets) None) given holds in
       let long = both.0 ∙ length_map (place_in query.tables) common ∙ sym (length_map (place_in audit.tables) common) in
-      let found = one-agrees choices (unmasked_query audit.cond) [] audit_sets audit_places given (replicate (length audit_sets) None)
+      let found = one-agrees choices (implied_query audit.cond) [] audit_sets audit_places given (replicate (length audit_sets) None)
       (common-open audit.tables common (length audit_sets) apart in_audit (sym long_audit)) long both.2 in
-      agrees-in-range audit.tables audit_sets long_audit common in_audit given found.0.places (parts-counted choices (unmasked_query audit.cond) [] audit_sets found.0.places found.0.counts).0 found.1
+      agrees-in-range audit.tables audit_sets long_audit common in_audit given found.0.places (parts-counted choices (implied_query audit.cond) [] audit_sets found.0.places found.0.counts).0 found.1
 
   back : (given : List Place) → in_range common_sets given ≡ true → shares (shared_at given) ≡ true → Holds given
   back given in_sets passed =
@@ -177,7 +177,7 @@ module _ (choices : Choices) (query : Masked) (audit : Audit) (seen : List Expr)
       (long ∙ sym (length_map (place_in query.tables) common)) (long ∙ sym (length_map (place_in audit.tables) common))
       (side-back choices query seen query.tables query_sets audit.tables audit_sets common long_query long_audit in_query in_audit apart same_rows
       (λ rows. is_guarded choices query rows && masked_passes choices query rows && are_shown choices seen rows) (λ rows. refl) ascend given in_sets both.0)
-      (side-back choices (unmasked_query audit.cond) [] audit.tables audit_sets audit.tables audit_sets common long_audit long_audit in_audit in_audit apart own_rows
+      (side-back choices (implied_query audit.cond) [] audit.tables audit_sets audit.tables audit_sets common long_audit long_audit in_audit in_audit apart own_rows
       (λ rows. passes audit.cond (all_shown rows)) audit_counts ascend given in_sets both.1)
 
   found_is : (found : Option (List Place)) → IsFirst Holds found → find (λ given. shares (shared_at given)) (places_of common_sets) ≡ found
@@ -248,7 +248,7 @@ module _ {C : Type 0} (choices : C → Choices) (query : Masked) (seen : List Ex
 
   abbrev Here : List Place → Type 0
   Here given =
-      ShareAt (λ slots. HasOne now query seen audited.query_sets.now slots) (λ slots. HasOne now (unmasked_query audited.audit.now.cond) [] audited.audit_sets.now slots)
+      ShareAt (λ slots. HasOne now query seen audited.query_sets.now slots) (λ slots. HasOne now (implied_query audited.audit.now.cond) [] audited.audit_sets.now slots)
       (common_in query.tables query audited.audit.now) (common_in audited.audit.now.tables query audited.audit.now)
       (replicate (length audited.query_sets.now) None) (replicate (length audited.audit_sets.now) None) given
 
@@ -259,7 +259,7 @@ module _ {C : Type 0} (choices : C → Choices) (query : Masked) (seen : List Ex
 
   long_here : (given : List Place) → Here given → length given ≡ length (common_in audited.audit.now.tables query audited.audit.now)
   long_here given holds =
-      let both = share-both (λ slots. HasOne now query seen audited.query_sets.now slots) (λ slots. HasOne now (unmasked_query audited.audit.now.cond) [] audited.audit_sets.now slots)
+      let both = share-both (λ slots. HasOne now query seen audited.query_sets.now slots) (λ slots. HasOne now (implied_query audited.audit.now.cond) [] audited.audit_sets.now slots)
       (common_in query.tables query audited.audit.now) (common_in audited.audit.now.tables query audited.audit.now)
       (replicate (length audited.query_sets.now) None) (replicate (length audited.audit_sets.now) None) given holds in
       both.0 ∙ length_map (place_in query.tables) (common_tables query.tables audited.audit.now.tables) ∙ sym (length_map (place_in audited.audit.now.tables) (common_tables query.tables audited.audit.now.tables))

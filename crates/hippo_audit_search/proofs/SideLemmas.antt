@@ -26,6 +26,8 @@ use Rattle.hippo_model.specs.MaskedTruth.{masked_value}
 use Rattle.hippo_eval.specs.Unmasked.{unmasked_operand, unmasked_condition, all_shown}
 use Rattle.hippo_eval.specs.Walks.{rows_of}
 use Rattle.hippo_eval.proofs.UnmaskedLemmas.{value_is}
+use Rattle.hippo_join_implied.specs.Implied.{query_with_implied}
+use Rattle.hippo_join_implied.proofs.ImpliedLemmas.{holds-with_implied}
 use Rattle.hippo_join_lookups.specs.Places.{slot_at, chosen_rows, in_range, places_of, stays, stands}
 use Rattle.hippo_join_lookups.specs.Known.{is_chosen}
 use Rattle.hippo_join.specs.Existence.{HasOne, Decides}
@@ -166,19 +168,26 @@ pub passes-unmasked_operand : (choices : Choices) (condition : CondOf Operand) (
 passes-unmasked_operand choices condition rows =
     ap is_true (agrees unmasked_operand (masked_value choices rows) condition ∙ ap (λ (value : Operand → Value). truth value condition) (λ i operand. value_is choices rows operand i))
 
+-- the same with what the condition implies
+abbrev pub implied_query : CondOf Operand → Masked
+implied_query condition = query_with_implied (unmasked_query condition)
+
+pub passes-implied_query : (choices : Choices) (condition : CondOf Operand) (rows : Combination) → masked_passes choices (implied_query condition) rows ≡ passes condition (all_shown rows)
+passes-implied_query choices condition rows = holds-with_implied choices rows (unmasked_condition condition) ∙ passes-unmasked_operand choices condition rows
+
 -- if no combination of an audit's rows counts, none has a tuple
-pub audit-none : (choices : Choices) (audit : Audit) (sets : List KeyedRows) (unmasked : Masked) → unmasked ≡ unmasked_query audit.cond
+pub audit-none : (choices : Choices) (audit : Audit) (sets : List KeyedRows) (unmasked : Masked) → unmasked ≡ implied_query audit.cond
     → (result : Result Bool Memory) → Decides (HasOne choices unmasked [] sets (replicate (length sets) None)) result
     → IfOk result (λ has. has ≡ false → (tuple : List SharedRow) → audit_has audit sets tuple ≡ false)
 audit-none choices audit sets unmasked is (Ok true) one = λ wrong. absurd (false≢true (sym wrong))
 audit-none choices audit sets unmasked is (Ok false) none = λ e tuple. not_so (audit_has audit sets tuple) (λ has.
     let found = one-of-product sets (λ rows. has_tuple_in audit.tables sets tuple rows && passes audit.cond (all_shown rows)) has in
     let rows : Combination = chosen_rows sets found.0 in
-    let counts : masked_passes choices (unmasked_query audit.cond) rows ≡ true = passes-unmasked_operand choices audit.cond rows ∙ (and_parts (has_tuple_in audit.tables sets tuple rows) (passes audit.cond (all_shown rows)) found.2).1 in
-    let one : HasOne choices (unmasked_query audit.cond) [] sets (replicate (length sets) None) = record {
+    let counts : masked_passes choices (implied_query audit.cond) rows ≡ true = passes-implied_query choices audit.cond rows ∙ (and_parts (has_tuple_in audit.tables sets tuple rows) (passes audit.cond (all_shown rows)) found.2).1 in
+    let one : HasOne choices (implied_query audit.cond) [] sets (replicate (length sets) None) = record {
       places = found.0;
       fits = Fits-open found.0 (length sets) (length-in_range sets found.0 found.1);
-      counts = counts-parts choices (unmasked_query audit.cond) [] sets found.0 found.1 counts;
+      counts = counts-parts choices (implied_query audit.cond) [] sets found.0 found.1 counts;
       shows = refl;
     } in
     none (subst (λ (m : Masked). HasOne choices m [] sets (replicate (length sets) None)) (sym is) one))

@@ -7,6 +7,7 @@ use Rattle.hippo_model.specs.declared.query.Expr.{Expr}
 use Rattle.hippo_model.specs.declared.query.Masked.{Masked}
 use Rattle.hippo_model.specs.Terms.{Place}
 use Rattle.hippo_eval.specs.Unmasked.{unmasked_condition}
+use Rattle.hippo_join_implied.specs.Implied.{query_with_implied}
 use Rattle.hippo_join_lookups.specs.Places.{blank}
 use Rattle.hippo_audit_search.specs.declared.audited.Audited.{Audited}
 use Rattle.hippo_audit_search.specs.declared.audited.Compared.{Compared}
@@ -15,10 +16,11 @@ use Rattle.hippo_audit_search.specs.declared.sides.Sides.{Sides}
 use Rattle.hippo_audit_common.specs.Commons.{common_tables, place_in}
 use Rattle.hippo_audit_search.specs.Tuples.{tuple_at}
 
--- an audit's condition as a query without guards
+-- an audit's condition, with what it implies, as a query without guards
 abbrev pub condition_alone : Audit → Masked
 condition_alone audit =
-    record { items = []; tables = []; guards = []; cond = unmasked_condition audit.cond }
+    query_with_implied
+    (record { items = []; tables = []; guards = []; cond = unmasked_condition audit.cond })
 
 -- the places, among some tables, of those that a query and an audit have in common
 abbrev pub common_in : List Name → Masked → Audit → List Place

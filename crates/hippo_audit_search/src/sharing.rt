@@ -13,6 +13,7 @@ use crate::tuples::tuple_at;
 use hippo_audit_common::{CommonPlaces, common_places};
 use hippo_eval::unmasked_condition;
 use hippo_join::blank_row;
+use hippo_join_implied::add_implied;
 use hippo_join_stages::Side;
 use hippo_model::{Audit, BornRow, ChoiceView, Masked, SharedTuple};
 use hippo_tables_rows::Sets;
@@ -28,16 +29,18 @@ pub(crate) struct AuditSide {
     pub blank: BornRow,
 }
 
-// An audit's condition as a query without guards.
+// An audit's condition, with what it implies, as a query without guards.
 pub(crate) fn unmasked_query(alloc: Global, audit: &Audit) -> Result<Masked, Memory>
     ensures { IfOk result (λ query. query ≡ condition_alone audit.now) }
 {
-    Ok(Masked {
+    let mut query = Masked {
         items: Sequence::new(alloc),
         tables: Sequence::new(alloc),
         guards: Sequence::new(alloc),
         cond: unmasked_condition(alloc, &audit.cond)?,
-    })
+    };
+    add_implied(alloc, &mut query.cond)?;
+    Ok(query)
 }
 
 /// Does nothing. Its contract says that the rows of each table are in the order of their keys.

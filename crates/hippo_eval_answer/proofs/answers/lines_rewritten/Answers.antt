@@ -3,7 +3,7 @@ use Rattle.std.proofs.Common.{List, subst}
 use Rattle.hippo_model.specs.Terms.{ShownRow}
 use Rattle.hippo_eval.specs.declared.answers.TheConstants.{ANSWER_LIMIT}
 use Rattle.hippo_eval_answer.specs.Lines.{IsSaid}
-use Rattle.hippo_eval_answer.proofs.answers.lines_masked.Goals as goal
+use Rattle.hippo_eval_answer.proofs.answers.lines_rewritten.Goals as goal
 
 pub returns : goal.returns
 returns c = λ meaning history state.
