@@ -39,10 +39,6 @@ pub record IsMasked (standpoint : Standpoint) (query : Query) (masked : Masked) 
       → masked
       ≡ query_with_implied (rewritten_query (rules_from standpoint history query.tables) query)
 
--- as `IsMasked`, once what the condition implies is added
-abbrev pub BecomesMasked : Standpoint → Query → Masked → Type 0
-BecomesMasked standpoint query rewritten = IsMasked standpoint query (query_with_implied rewritten)
-
 -- the answer to a query
 abbrev pub answer_from : Standpoint → History → Query → List ShownRow
 answer_from standpoint history query =

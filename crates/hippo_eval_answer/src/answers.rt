@@ -1,5 +1,5 @@
 //! The answer of a query over the state of a history.
-ghost use Rattle.std.specs.Prelude.{◌≡◌, List, length, IfOk, OnOk};
+ghost use Rattle.std.specs.Prelude.{◌≡◌, List, length, IfOk};
 ghost use Rattle.hippo_model.specs.Terms.{History, Meaning, ShownRow};
 ghost use Rattle.hippo_model.specs.Forms.{rows_by_form};
 ghost use Rattle.hippo_model.specs.Masking.{masked_answer};
@@ -8,7 +8,8 @@ ghost use Rattle.hippo_tables.specs.Standing.{TablesStandFor, AreKeptTables};
 ghost use Rattle.hippo_eval.specs.Walks.{rows_of};
 ghost use Rattle.hippo_eval.specs.Answering.{IsAnswered};
 ghost use Rattle.hippo_join_implied.specs.Implied.{query_with_implied};
-ghost use Rattle.hippo_eval_answer.specs.States.{AreStateOf, BecomesMasked, IsMasked, answer_from, rules_from};
+ghost use Rattle.hippo_rewrite.specs.Rewriting.{rewritten_query};
+ghost use Rattle.hippo_eval_answer.specs.States.{AreStateOf, IsMasked, answer_from, rules_from};
 ghost use Rattle.hippo_eval_answer.specs.Lines.{IsSaid};
 
 use crate::inquiry::Inquiry;
@@ -50,21 +51,23 @@ fn rules_of(
     )
 }
 
-// The query with the rules in force written into it.
-fn rewritten(alloc: Global, standpoint: &Standpoint<'_>, query: &Query) -> Result<Masked, Memory>
-    requires { AreKeptTables standpoint.now.tables.now query.now.tables }
-    ensures { IfOk result (BecomesMasked standpoint.now query.now) }
+// The query with the rules written into it, and with what its condition then implies.
+fn rewritten(alloc: Global, query: &Query, rules: &RulesInForce) -> Result<Masked, Memory>
+    ensures { IfOk result (λ made. made
+        ≡ query_with_implied (rewritten_query rules.now query.now)) }
 {
-    let rules = rules_of(alloc, standpoint, &query.tables)?;
-    rewrite(alloc, query, &rules)
+    let mut masked = rewrite(alloc, query, rules)?;
+    add_implied(alloc, &mut masked.cond)?;
+    Ok(masked)
 }
 
-// Adds to a query what its condition implies.
-fn add_implied_to(alloc: Global, masked: &mut Masked) -> Result<(), Memory>
-    ensures { OnOk result (masked.new ≡ query_with_implied masked.old) }
+// The query with the rules in force written into it, and with what its condition then implies.
+fn masked_query(alloc: Global, standpoint: &Standpoint<'_>, query: &Query) -> Result<Masked, Memory>
+    requires { AreKeptTables standpoint.now.tables.now query.now.tables }
+    ensures { IfOk result (IsMasked standpoint.now query.now) }
 {
-    add_implied(alloc, &mut masked.cond)?;
-    Ok(())
+    let rules = rules_of(alloc, standpoint, &query.tables)?;
+    rewritten(alloc, query, &rules)
 }
 
 // The masked query with the rows and the choices that it is answered over, at a standpoint.
@@ -133,58 +136,56 @@ fn lines(alloc: Global, session: u8, form: &Form, inquiry: &Inquiry<'_>) -> Resu
     }
 }
 
-// The answer to a query at a standpoint, by its rewritten query.
-fn answer_rewritten(
+// The answer to a query at a standpoint, by its masked query.
+fn answer_masked(
     alloc: Global,
     standpoint: &Standpoint<'_>,
     query: &Query,
-    masked: &mut Masked,
+    masked: &Masked,
 ) -> Result<Answer, EvalFault>
-    requires { BecomesMasked standpoint.now query.now masked.old }
+    requires { IsMasked standpoint.now query.now masked.now }
     ensures { (meaning : Meaning) (history : History) → AreStateOf meaning standpoint.now history
         → IsAnswered ANSWER_LIMIT (answer_from standpoint.now history query.now) result }
 {
-    add_implied_to(alloc, masked)?;
     let inquiry = inquiry_of(alloc, standpoint, query, masked)?;
     let answer = formed(alloc, &query.form, &inquiry);
     drop(inquiry);
     answer
 }
 
-// The lines of the answer to a query at a standpoint, by its rewritten query.
-fn lines_rewritten(
+// The lines of the answer to a query at a standpoint, by its masked query.
+fn lines_masked(
     alloc: Global,
     standpoint: &Standpoint<'_>,
     query: &Query,
-    masked: &mut Masked,
+    masked: &Masked,
     session: u8,
 ) -> Result<Lines, EvalFault>
-    requires { BecomesMasked standpoint.now query.now masked.old }
+    requires { IsMasked standpoint.now query.now masked.now }
     ensures { (meaning : Meaning) (history : History) → AreStateOf meaning standpoint.now history
         → IsSaid ANSWER_LIMIT session (answer_from standpoint.now history query.now) result }
 {
-    add_implied_to(alloc, masked)?;
     let inquiry = inquiry_of(alloc, standpoint, query, masked)?;
     let lines = lines(alloc, session, &query.form, &inquiry);
     drop(inquiry);
     lines
 }
 
-// As `lines_rewritten`, or the fault if the rewritten query was out of memory. `masked` is borrowed,
+// As `lines_masked`, or the fault if the masked query was out of memory. `masked` is borrowed,
 // since moving it costs more than looking at it.
-fn lines_if_rewritten(
+fn lines_if_masked(
     alloc: Global,
     standpoint: &Standpoint<'_>,
     query: &Query,
-    masked: &mut Result<Masked, Memory>,
+    masked: &Result<Masked, Memory>,
     session: u8,
 ) -> Result<Lines, EvalFault>
-    requires { IfOk masked.old (BecomesMasked standpoint.now query.now) }
+    requires { IfOk masked.now (IsMasked standpoint.now query.now) }
     ensures { (meaning : Meaning) (history : History) → AreStateOf meaning standpoint.now history
         → IsSaid ANSWER_LIMIT session (answer_from standpoint.now history query.now) result }
 {
     match masked {
-        Ok(made) => lines_rewritten(alloc, standpoint, query, made, session),
+        Ok(made) => lines_masked(alloc, standpoint, query, made, session),
         Err(Memory) => Err(EvalFault::Memory),
     }
 }
@@ -213,8 +214,8 @@ pub fn answer(
     ensures { (meaning : Meaning) (history : History) → AreStateOf meaning standpoint.now history
         → IsAnswered ANSWER_LIMIT (answer_from standpoint.now history query.now) result }
 {
-    let mut masked = rewritten(alloc, standpoint, query)?;
-    let answer = answer_rewritten(alloc, standpoint, query, &mut masked);
+    let masked = masked_query(alloc, standpoint, query)?;
+    let answer = answer_masked(alloc, standpoint, query, &masked);
     drop(masked);
     answer
 }
@@ -232,8 +233,8 @@ pub fn answer_as_lines(
     ensures { (meaning : Meaning) (history : History) → AreStateOf meaning standpoint.now history
         → IsSaid ANSWER_LIMIT session (answer_from standpoint.now history query.now) result }
 {
-    let mut masked = rewritten(alloc, standpoint, query);
-    let lines = lines_if_rewritten(alloc, standpoint, query, &mut masked, session);
+    let masked = masked_query(alloc, standpoint, query);
+    let lines = lines_if_masked(alloc, standpoint, query, &masked, session);
     drop(masked);
     lines
 }

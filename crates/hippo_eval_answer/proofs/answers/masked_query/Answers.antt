@@ -5,16 +5,16 @@ use Rattle.hippo_model.specs.declared.policy.TableRules.{TableRules}
 use Rattle.hippo_model.specs.declared.query.Masked.{Masked}
 use Rattle.hippo_rewrite.specs.Rewriting.{rewritten_query}
 use Rattle.hippo_join_implied.specs.Implied.{query_with_implied}
-use Rattle.hippo_eval_answer.specs.States.{BecomesMasked}
-use Rattle.hippo_eval_answer.proofs.answers.rewritten.Goals as goal
+use Rattle.hippo_eval_answer.specs.States.{IsMasked}
+use Rattle.hippo_eval_answer.proofs.answers.masked_query.Goals as goal
 
 pub returns : goal.returns
 returns c =
     let query = c.args.query.now in
-    IfOk-weaker c.rewrite.result (λ (masked : Masked). masked ≡ rewritten_query c.in_ok-rules.rules query) (BecomesMasked c.args.standpoint.now query)
+    IfOk-weaker c.rewritten.result (λ (masked : Masked). masked ≡ query_with_implied (rewritten_query c.in_ok-rules.rules query)) (IsMasked c.args.standpoint.now query)
     (λ masked is. record {
       kept = c.requires;
       tables = ap (λ (made : Masked). made.tables) is;
-      rules = λ history book tables. ap query_with_implied (is ∙ ap (λ (rules : List TableRules). rewritten_query rules query) (c.in_ok-rules.ensures history book tables));
+      rules = λ history book tables. is ∙ ap (λ (rules : List TableRules). query_with_implied (rewritten_query rules query)) (c.in_ok-rules.ensures history book tables);
     })
-    c.rewrite.ensures
+    c.rewritten.ensures

@@ -1,0 +1,10 @@
+-- The masked query over its rows gives the answer.
+use Rattle.std.proofs.Common.{List, subst}
+use Rattle.hippo_model.specs.Terms.{ShownRow}
+use Rattle.hippo_eval.specs.declared.answers.TheConstants.{ANSWER_LIMIT}
+use Rattle.hippo_eval_answer.specs.Lines.{IsSaid}
+use Rattle.hippo_eval_answer.proofs.answers.lines_masked.Goals as goal
+
+pub returns : goal.returns
+returns c = λ meaning history state.
+    subst (λ (rows : List ShownRow). IsSaid ANSWER_LIMIT c.args.session rows c.lines-lines.result) (c.in_ok-inquiry.ensures.answers meaning history state) c.lines-lines.ensures
