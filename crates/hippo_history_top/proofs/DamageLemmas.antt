@@ -1,17 +1,18 @@
 -- Showing the history before the damage, and then the place.
-use Rattle.std.proofs.Common.{◌≡◌, ◌≢◌, ◌∙◌, inl, inr, ℕ, ◌+◌, ◌-◌, ◌≤◌, true, false, ◌++◌, take, Option, Some, Result, Ok, Err, IfOk, refl, sym, ap, subst, arith}
+use Rattle.std.proofs.Common.{◌≡◌, ◌≢◌, ◌∙◌, inl, inr, ℕ, ◌+◌, ◌-◌, ◌≤◌, true, false, [], ◌++◌, take, Option, Some, Result, Ok, Err, IfOk, refl, sym, ap, subst, arith}
 use Rattle.std.specs.Prelude.{◌*◌}
 use Rattle.std.proofs.lemmas.Bool.{false≢true}
 use Rattle.hippo_values.specs.Texts.{Txt}
 use Rattle.hippo_io.specs.Faults.{HasRisen}
 use Rattle.hippo_io.specs.Told.{Appends, AppendsFront}
-use Rattle.hippo_model.specs.Stores.{IsStoreOf}
+use Rattle.hippo_model.specs.Stores.{IsStoreOf, IsDamagedAt}
 use Rattle.hippo_model.specs.Terms.{History}
 use Rattle.hippo_model_laws.proofs.OneStore.{all_can_be_kept}
 use Rattle.hippo_keeper.specs.declared.faults.KeeperFault.{KeeperFault as Fault}
 use Rattle.hippo_keeper.specs.declared.faults.KeeperFault.TheVariants as keeper_faults
 use Rattle.hippo_keeper.specs.Answering.{has_failed}
-use Rattle.hippo_keeper.specs.Keeping.{Store, KeeperState, IsAfterCall, KeepsSame}
+use Rattle.hippo_keeper.specs.Keeping.{Store, KeeperState, IsReady, IsAfterCall, KeepsSame}
+use Rattle.hippo_keeper.specs.MemoryKeeping.{MemoryStore, new_store, memory_keeper_state}
 use Rattle.hippo_keeper.specs.Selecting.{stored_versions}
 use Rattle.hippo_keeper.proofs.CallLemmas.{IsAfterCall-then, IsAfterCall-as}
 use Rattle.hippo_keeper.proofs.Results.{ok_of, err_of}
@@ -35,11 +36,47 @@ use Rattle.hippo_history_top.specs.Damage.{damaged_text, BeforeDamage, ThenPlace
 use Rattle.hippo_history_top.specs.Endings.{ends_showing, ending_of}
 use Rattle.hippo_history_top.specs.Fronts.{CopiesFront}
 use Rattle.hippo_history_top.specs.Outcomes.{Ends}
-use Rattle.hippo_history_top.specs.Progress.{HasForms, ShowsLoaded}
+use Rattle.hippo_history_top.specs.Progress.{IsReadable, HasForms, ShowsLoaded}
 use Rattle.hippo_history_top.specs.Saying.{CountsWrites}
 use Rattle.hippo_history_top.specs.Showing.{shown_text}
 use Rattle.hippo_history_top.proofs.OutcomeLemmas.{found_still, as_it_is}
 use Rattle.hippo_history_top.proofs.WriteLemmas.{none_of, whole_front, CountsWrites-same}
+
+-- a keeper in memory that no call was made on may be started
+pub new_ready : (store : Store) → IsReady false (memory_keeper_state (new_store store []))
+new_ready store = record {
+  is_sound = tt;
+  started_is = refl;
+  not_closed = refl;
+  not_spent = refl;
+  has_to_tell = record { over_disk = λ clean own. tt; over_memory = λ memory. tt };
+}
+
+-- a load from memory leaves the entries there
+module _ (old new : MemoryStore) (start mid : ℕ) where
+  kept_there : (result : Result State LoadFault) → Loads [] result (memory_keeper_state old) (memory_keeper_state new) start mid → new.calls.standing.started ≡ true → new.kept ≡ old.kept
+  kept_there result loads started = (loads.found started tt).found
+
+  module _ (state : State) (loads : Loads [] (ok_of LoadFault state) (memory_keeper_state old) (memory_keeper_state new) start mid) where
+    pub loaded_readable : IsReadable (memory_keeper_state new)
+    loaded_readable = record {
+      ready = Loads-ready [] (ok_of LoadFault state) (memory_keeper_state old) (memory_keeper_state new) start mid loads refl;
+      order = λ tells. (loads.found (loads.started refl) tells).order;
+    }
+
+    pub loaded_kept : new.kept ≡ old.kept
+    loaded_kept = kept_there (ok_of LoadFault state) loads (loads.started refl)
+
+    pub loaded_stands : (front : History) → IsStoreOf meaning old.kept front → Represents state front
+    loaded_stands front is =
+        stands_for_kept [] (ok_of LoadFault state) (memory_keeper_state old) (memory_keeper_state new) start mid loads tt front
+        (subst (λ (s : Store). IsStoreOf meaning s front) (sym loaded_kept) is)
+
+  -- damaged entries are those of no history
+  pub none_stored : (place : ℕ) → Loads [] (err_of State (DamagedAt place)) (memory_keeper_state old) (memory_keeper_state new) start mid → (front : History) → ¬ (IsStoreOf meaning old.kept front)
+  none_stored place loads front is =
+      never_damaged [] (err_of State (DamagedAt place)) (memory_keeper_state old) (memory_keeper_state new) start mid loads tt front
+      (subst (λ (s : Store). IsStoreOf meaning s front) (sym (kept_there (err_of State (DamagedAt place)) loads (loads.started refl))) is) place refl
 
 module _ (store : Store) (view : View) (place : ℕ) where
   abbrev text : History → Txt
@@ -136,6 +173,13 @@ module _ (store : Store) (view : View) (place : ℕ) where
   ShowsCopied-then state before after TooMuch result old mid new faults between faults' ticks ticks' stands kept tells shows then = absurd (false≢true shows.status)
 
 module _ (view : View) (place : ℕ) (before after : KeeperState) (ticks ticks' : ℕ) where
+  read_once : (result : Result Store Fault) → CopiesFront (place - 1) result before after ticks ticks' → after.tells → ticks' ≤ ticks + stored_versions before.kept
+  read_once result all tells =
+      let there = all.told tells in
+      let kept : stored_versions before.kept ≡ stored_versions all.read + stored_versions there.0 = ap stored_versions there.1 ∙ versions-append all.read there.0 in
+      let taken = all.hands.steps in
+      omega (arith, kept, taken)
+
   -- the entries were copied and shown
   pub ShowsDamaged-copied : (unwritten : Type 0) (front : Store) (result : Ending) (written written' : Option Txt) (faults faults' : ℕ)
       → CopiesFront (place - 1) (ok_of Fault front) before after ticks ticks' → ShowsCopied front view place result written written' faults faults'
@@ -158,13 +202,6 @@ module _ (view : View) (place : ℕ) (before after : KeeperState) (ticks ticks' 
       fine : (ending : Ending) → ending ≢ KeeperFault → has_failed (ending_as_call ending) ≡ false
       fine KeeperFault other = absurd (other refl)
       fine ending other = refl
-
-  read_once : (result : Result Store Fault) → CopiesFront (place - 1) result before after ticks ticks' → after.tells → ticks' ≤ ticks + stored_versions before.kept
-  read_once result all tells =
-      let there = all.told tells in
-      let kept : stored_versions before.kept ≡ stored_versions all.read + stored_versions there.0 = ap stored_versions there.1 ∙ versions-append all.read there.0 in
-      let taken = all.hands.steps in
-      omega (arith, kept, taken)
 
   -- a call on the keeper failed, or memory ran out, and nothing is written
   uncopied : (unwritten : Type 0) (fault : Fault) (ending : Ending) (written : Option Txt) (faults : ℕ) → unwritten
@@ -227,7 +264,7 @@ module _ (name : Txt) (view : View) (place : ℕ) (before loaded after : KeeperS
     kept : KeepsDamaged name place before after
     kept = record {
       kept = damaged_found;
-      damaged = subst (λ (s : Store). Rattle.hippo_model.specs.Stores.IsDamagedAt meaning s place) (sym (shows.stays tells).same) (loads.damaged place refl told);
+      damaged = subst (λ (s : Store). IsDamagedAt meaning s place) (sym (shows.stays tells).same) (loads.damaged place refl told);
     }
 
     -- what holds of the history before the damage

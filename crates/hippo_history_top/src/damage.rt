@@ -60,7 +60,7 @@ fn show_stored<K: Sink, L: Ledger>(
 // copies are counted on a ledger of their own.
 fn show_copied<K: Sink, L: Ledger>(
     alloc: Global,
-    front: &StoredList,
+    front: StoredList,
     view: &View,
     place: u64,
     sink: &mut K,
@@ -69,12 +69,14 @@ fn show_copied<K: Sink, L: Ledger>(
     requires name { blank.name ≡ L.name }
     requires parts { blank.parts ≡ L.parts }
     requires some { 0 < blank.parts }
-    requires order { RisesAbove 0 front.now }
-    ensures shows { ShowsCopied front.now view.now place result
+    requires order { RisesAbove 0 front }
+    ensures shows { ShowsCopied front view.now place result
         (K.written sink.old) (K.written sink.new) (K.faults sink.old) (K.faults sink.new) }
 {
     let mut steps = Steps::<L>::new(blank);
-    match MemoryKeeper::of(alloc, front, KeeperFails::new(alloc)) {
+    let copied = MemoryKeeper::of(alloc, &front, KeeperFails::new(alloc));
+    drop(front);
+    match copied {
         Ok(mut keeper) => {
             let ending = show_stored(alloc, view, place, sink, &mut keeper, &mut steps);
             drop(keeper);
@@ -100,11 +102,7 @@ pub(crate) fn show_damaged<K: Sink, P: CountedKeeper<L>, L: Ledger>(
         (K.faults sink.old) (K.faults sink.new) steps.old steps.new }
 {
     match copy_front(alloc, place.saturating_sub(1), keeper, steps) {
-        Ok(front) => {
-            let ending = show_copied::<K, Brand>(alloc, &front, view, place, sink, Blank::new(1));
-            drop(front);
-            ending
-        }
+        Ok(front) => show_copied::<K, Brand>(alloc, front, view, place, sink, Blank::new(1)),
         Err(fault) => ending_of(fault),
     }
 }
