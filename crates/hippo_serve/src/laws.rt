@@ -1,18 +1,21 @@
 //! Laws about runs, written as the contracts of functions that do nothing.
-ghost use Rattle.std.specs.Prelude.{ℕ, List, IfSome};
+ghost use Rattle.std.specs.Prelude.{ℕ, List, IfOk, IfSome};
 ghost use Rattle.sqlite_store.specs.FileStore.{view};
 ghost use Rattle.sqlite_trees.specs.View.{IsClean};
+ghost use Rattle.sqlite_wal.specs.Files.{image_at};
 ghost use Rattle.sqlite_wal.specs.Recovery.{Image};
 ghost use Rattle.hippo_model.specs.Terms.{History};
 ghost use Rattle.hippo_keeper.specs.MemoryKeeping.{memory_keeper_state};
-ghost use Rattle.hippo_serve.specs.NextRun.{FilesHold, FilesHoldEither};
+ghost use Rattle.hippo_serve.specs.NextRun.{FilesHold, FilesHoldEither, HasStartedOver};
 ghost use Rattle.hippo_sqlite.specs.Leaving.{MayBeLeft};
 ghost use Rattle.hippo_serve_jobs.specs.Keeping.{KeepsHistory, KeepsEither, FindsWhatSurvives, FindsHistory, FindsEither};
 
-use hippo_keeper::{Keeper, MemoryKeeper};
+use hippo_keeper::{Keeper, KeeperFault, MemoryKeeper};
 use hippo_sqlite_files::FileKeeper;
 use sqlite::{FileFrom, FileStore};
 use sqlite_disk::Start;
+use std::alloc::Global;
+use std::rt::HostRuntime;
 
 /// The next run begins with the history that the last run left, if a start finds only what survives
 /// a stop. If the keeper failed, it begins with one of two histories.
@@ -54,4 +57,26 @@ pub fn leave<B: Start>(keeper: FileKeeper<B>) -> Option<FileStore<FileFrom<B>>>
         → ∥ ((image : Image) × MayBeLeft it image) ∥₁) }
 {
     keeper.into_store()
+}
+
+/// Starts a keeper over files that `files` describes. With [`leave`]: if these are what a stop may
+/// leave of the last run's files, the next run begins with the history that the last run stored, or
+/// with one of two histories if its keeper failed.
+pub fn start_next<B: Start>(
+    runtime: HostRuntime,
+    files: B,
+    alloc: Global,
+    store: &str,
+) -> Result<FileKeeper<B>, KeeperFault>
+    ensures started { IfOk result (λ next. HasStartedOver (image_at B.Start) store.now
+        (⟦<FileKeeper<B> as Keeper>⟧.state next)) }
+{
+    let mut keeper = FileKeeper::new(runtime, files);
+    match keeper.start(alloc, store) {
+        Ok(()) => Ok(keeper),
+        Err(fault) => {
+            keeper.close();
+            Err(fault)
+        }
+    }
 }

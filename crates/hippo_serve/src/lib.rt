@@ -6,6 +6,6 @@ mod laws;
 mod program;
 mod top;
 
-pub use laws::{leave, next_run, next_run_in_memory};
+pub use laws::{leave, next_run, next_run_in_memory, start_next};
 pub use program::Hippo;
 pub use top::hippo_top;
