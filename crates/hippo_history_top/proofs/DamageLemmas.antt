@@ -138,39 +138,36 @@ module _ (store : Store) (view : View) (place : ℕ) where
       unserved = unserved;
       unfailed = unfailed;
       writes = writes;
-      whole = λ e front of. absurd (no e front of);
-      begun = λ front of.
+      whole = λ e front has. absurd (no e front has);
+      begun = λ front has.
           front_of_more old new (shown_text view front) (damaged_line place)
-          (subst (λ (told : Option Txt). AppendsFront old told (shown_text view front)) (sym same) (shows.front tells front (stands front of) (forms front of)));
+          (subst (λ (told : Option Txt). AppendsFront old told (shown_text view front)) (sym same) (shows.front tells front (stands front has) (forms front has)));
     })
-
-    unlisted : ends_showing (Some ending) ≡ false → ShowsCopied store view place result old new faults faults'
-    unlisted not = absurd (false≢true (sym not ∙ shows.status))
 
   pub ShowsCopied-then : (state : State) (before after : KeeperState) (ending result : Ending) (old mid new : Option Txt) (faults between faults' ticks ticks' : ℕ)
       → ((front : History) → IsStoreOf meaning store front → Represents state front) → before.kept ≡ store → after.tells
       → ShowsLoaded state view ending before after old mid faults between ticks ticks' → ThenPlace place ending result mid new between faults'
       → ShowsCopied store view place result old new faults faults'
-  ShowsCopied-then state before after Served result old mid new faults between faults' ticks ticks' stands kept tells shows then =
+  ShowsCopied-then state before after Served result old mid new faults between faults' ticks ticks' stands kept tells shows says =
       ShowsCopied-said result old mid new faults between faults'
       (λ front is. shows.whole refl tells front (stands front is) (forms state before after Served result old mid new faults between faults' ticks ticks' stands kept tells shows front is))
-      (shows.writes.unfailed (λ e. cc)) then
-  ShowsCopied-then state before after KeeperFault result old mid new faults between faults' ticks ticks' stands kept tells shows then =
-      front_only state before after KeeperFault result old mid new faults between faults' ticks ticks' stands kept tells shows NoMemory then.1 then.0 refl (λ e. cc) (λ e. cc)
-      (record { cause = λ e. absurd cc; unfailed = λ e. then.2 ∙ shows.writes.unfailed (λ e. cc) }) (λ e. absurd cc)
-  ShowsCopied-then state before after WriteFault result old mid new faults between faults' ticks ticks' stands kept tells shows then =
-      front_only state before after WriteFault result old mid new faults between faults' ticks ticks' stands kept tells shows WriteFault then.1 then.0 refl (λ e. cc) (λ e. cc)
-      (record { cause = λ e. subst (HasRisen faults) (sym then.2) (shows.writes.cause refl); unfailed = λ other. absurd (other refl) }) (λ e. absurd cc)
-  ShowsCopied-then state before after Damaged result old mid new faults between faults' ticks ticks' stands kept tells shows then =
-      front_only state before after Damaged result old mid new faults between faults' ticks ticks' stands kept tells shows Damaged then.1 then.0 refl (λ e. cc) (λ e. cc)
-      (record { cause = λ e. absurd cc; unfailed = λ e. then.2 ∙ shows.writes.unfailed (λ e. cc) })
+      (shows.writes.unfailed (λ e. cc)) says
+  ShowsCopied-then state before after KeeperFault result old mid new faults between faults' ticks ticks' stands kept tells shows says =
+      front_only state before after KeeperFault result old mid new faults between faults' ticks ticks' stands kept tells shows NoMemory says.1 says.0 refl (λ e. cc) (λ e. cc)
+      (record { cause = λ e. absurd cc; unfailed = λ e. says.2 ∙ shows.writes.unfailed (λ e. cc) }) (λ e. absurd cc)
+  ShowsCopied-then state before after WriteFault result old mid new faults between faults' ticks ticks' stands kept tells shows says =
+      front_only state before after WriteFault result old mid new faults between faults' ticks ticks' stands kept tells shows WriteFault says.1 says.0 refl (λ e. cc) (λ e. cc)
+      (record { cause = λ e. subst (HasRisen faults) (sym says.2) (shows.writes.cause refl); unfailed = λ other. absurd (other refl) }) (λ e. absurd cc)
+  ShowsCopied-then state before after Damaged result old mid new faults between faults' ticks ticks' stands kept tells shows says =
+      front_only state before after Damaged result old mid new faults between faults' ticks ticks' stands kept tells shows Damaged says.1 says.0 refl (λ e. cc) (λ e. cc)
+      (record { cause = λ e. absurd cc; unfailed = λ e. says.2 ∙ shows.writes.unfailed (λ e. cc) })
       (λ e front is. shows.damaged refl tells front (forms state before after Damaged result old mid new faults between faults' ticks ticks' stands kept tells shows front is))
-  ShowsCopied-then state before after NoMemory result old mid new faults between faults' ticks ticks' stands kept tells shows then =
-      front_only state before after NoMemory result old mid new faults between faults' ticks ticks' stands kept tells shows NoMemory then.1 then.0 refl (λ e. cc) (λ e. cc)
-      (record { cause = λ e. absurd cc; unfailed = λ e. then.2 ∙ shows.writes.unfailed (λ e. cc) }) (λ e. absurd cc)
-  ShowsCopied-then state before after Refused result old mid new faults between faults' ticks ticks' stands kept tells shows then = absurd (false≢true shows.status)
-  ShowsCopied-then state before after ReadFault result old mid new faults between faults' ticks ticks' stands kept tells shows then = absurd (false≢true shows.status)
-  ShowsCopied-then state before after TooMuch result old mid new faults between faults' ticks ticks' stands kept tells shows then = absurd (false≢true shows.status)
+  ShowsCopied-then state before after NoMemory result old mid new faults between faults' ticks ticks' stands kept tells shows says =
+      front_only state before after NoMemory result old mid new faults between faults' ticks ticks' stands kept tells shows NoMemory says.1 says.0 refl (λ e. cc) (λ e. cc)
+      (record { cause = λ e. absurd cc; unfailed = λ e. says.2 ∙ shows.writes.unfailed (λ e. cc) }) (λ e. absurd cc)
+  ShowsCopied-then state before after Refused result old mid new faults between faults' ticks ticks' stands kept tells shows says = absurd (false≢true shows.status)
+  ShowsCopied-then state before after ReadFault result old mid new faults between faults' ticks ticks' stands kept tells shows says = absurd (false≢true shows.status)
+  ShowsCopied-then state before after TooMuch result old mid new faults between faults' ticks ticks' stands kept tells shows says = absurd (false≢true shows.status)
 
 module _ (view : View) (place : ℕ) (before after : KeeperState) (ticks ticks' : ℕ) where
   read_once : (result : Result Store Fault) → CopiesFront (place - 1) result before after ticks ticks' → after.tells → ticks' ≤ ticks + stored_versions before.kept
@@ -191,13 +188,13 @@ module _ (view : View) (place : ℕ) (before after : KeeperState) (ticks ticks' 
     unserved = shows.unserved;
     unread = λ is. absurd (shows.unfailed is);
     writes = shows.writes;
-    whole = λ is tells history of. shows.whole is history (same tells history of);
-    begun = λ tells history of. shows.begun history (same tells history of);
+    whole = λ is tells history has. shows.whole is history (same tells history has);
+    begun = λ tells history has. shows.begun history (same tells history has);
     steps = read_once (ok_of Fault front) copies;
   }
     where
       same : after.tells → (history : History) → IsStoreOf meaning (take (place - 1) before.kept) history → IsStoreOf meaning front history
-      same tells history of = subst (λ (s : Store). IsStoreOf meaning s history) (sym (copies.whole tells)) of
+      same tells history has = subst (λ (s : Store). IsStoreOf meaning s history) (sym (copies.whole tells)) has
 
       fine : (ending : Ending) → ending ≢ KeeperFault → has_failed (ending_as_call ending) ≡ false
       fine KeeperFault other = absurd (other refl)
@@ -217,7 +214,7 @@ module _ (view : View) (place : ℕ) (before after : KeeperState) (ticks ticks' 
     unread = λ is. nothing;
     writes = CountsWrites-same (Some ending) faults unwrote;
     whole = λ is. absurd (undamaged is);
-    begun = λ tells history of. none_of written (damaged_text view place history);
+    begun = λ tells history has. none_of written (damaged_text view place history);
     steps = read_once (err_of Store fault) copies;
   }
 
