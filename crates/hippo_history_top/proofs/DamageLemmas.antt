@@ -1,5 +1,5 @@
 -- Showing the history before the damage, and then the place.
-use Rattle.std.proofs.Common.{◌≡◌, ◌≢◌, ◌∙◌, inl, inr, ℕ, ◌+◌, ◌-◌, ◌≤◌, true, false, [], ◌++◌, take, Option, Some, Result, Ok, Err, IfOk, refl, sym, ap, subst, arith}
+use Rattle.std.proofs.Common.{◌≡◌, ◌≢◌, ◌∙◌, inl, inr, ℕ, ◌+◌, ◌-◌, ◌≤◌, true, false, [], take, Option, Some, Result, Ok, refl, sym, ap, subst, arith}
 use Rattle.std.specs.Prelude.{◌*◌}
 use Rattle.std.proofs.lemmas.Bool.{false≢true}
 use Rattle.hippo_values.specs.Texts.{Txt}
@@ -11,7 +11,7 @@ use Rattle.hippo_model_laws.proofs.OneStore.{all_can_be_kept}
 use Rattle.hippo_keeper.specs.declared.faults.KeeperFault.{KeeperFault as Fault}
 use Rattle.hippo_keeper.specs.declared.faults.KeeperFault.TheVariants as keeper_faults
 use Rattle.hippo_keeper.specs.Answering.{has_failed}
-use Rattle.hippo_keeper.specs.Keeping.{Store, KeeperState, IsReady, IsAfterCall, KeepsSame}
+use Rattle.hippo_keeper.specs.Keeping.{Store, KeeperState, IsReady, IsAfterCall}
 use Rattle.hippo_keeper.specs.MemoryKeeping.{MemoryStore, new_store, memory_keeper_state}
 use Rattle.hippo_keeper.specs.Selecting.{stored_versions}
 use Rattle.hippo_keeper.proofs.CallLemmas.{IsAfterCall-then, IsAfterCall-as}
@@ -29,7 +29,7 @@ use Rattle.hippo_program_args.specs.declared.endings.Ending.TheVariants.{Served,
 use Rattle.hippo_program_args.specs.Endings.{ending_as_call}
 use Rattle.hippo_program_args.specs.Lines.{damaged_line}
 use Rattle.hippo_program_args.specs.Saying.{Says}
-use Rattle.hippo_program_args.specs.Starting.{HoldsOfStored, IsIdle, KeepsDamaged}
+use Rattle.hippo_program_args.specs.Starting.{KeepsDamaged}
 use Rattle.hippo_program_args.proofs.WriteLemmas.{front_of_more, whole_and_front, both_whole}
 use Rattle.hippo_history_top.specs.declared.asking.View.{View}
 use Rattle.hippo_history_top.specs.Damage.{damaged_text, BeforeDamage, ThenPlace, ShowsCopied, ShowsDamaged}
@@ -122,7 +122,7 @@ module _ (store : Store) (view : View) (place : ℕ) where
   -- there is no history with these stored forms
   pub ShowsCopied-none : (result : Ending) (old new : Option Txt) (faults faults' : ℕ) → ((front : History) → ¬ (IsStoreOf meaning store front))
       → Says Damaged (damaged_line place) WriteFault result old new faults faults' → ShowsCopied store view place result old new faults faults'
-  ShowsCopied-none result old new faults faults' no = ShowsCopied-said result old old new faults faults faults' (λ front is. absurd (no front is)) refl
+  ShowsCopied-none result old new faults faults' never = ShowsCopied-said result old old new faults faults faults' (λ front is. absurd (never front is)) refl
 
   -- what was loaded is shown, or a prefix of it, and the place may follow
   module _ (state : State) (before after : KeeperState) (ending result : Ending) (old mid new : Option Txt) (faults between faults' ticks ticks' : ℕ)
@@ -133,12 +133,12 @@ module _ (store : Store) (view : View) (place : ℕ) where
 
     front_only : (cut : Ending) → new ≡ mid → result ≡ cut → ends_showing (Some cut) ≡ true → cut ≢ Served → cut ≢ KeeperFault
         → CountsWrites (Some cut) faults faults' → (cut ≡ Damaged → (front : History) → ¬ (IsStoreOf meaning store front)) → ShowsCopied store view place result old new faults faults'
-    front_only cut same is listed unserved unfailed writes no = subst (λ (r : Ending). ShowsCopied store view place r old new faults faults') (sym is) (record {
+    front_only cut same is listed unserved unfailed writes never = subst (λ (r : Ending). ShowsCopied store view place r old new faults faults') (sym is) (record {
       status = listed;
       unserved = unserved;
       unfailed = unfailed;
       writes = writes;
-      whole = λ e front has. absurd (no e front has);
+      whole = λ e front has. absurd (never e front has);
       begun = λ front has.
           front_of_more old new (shown_text view front) (damaged_line place)
           (subst (λ (told : Option Txt). AppendsFront old told (shown_text view front)) (sym same) (shows.front tells front (stands front has) (forms front has)));

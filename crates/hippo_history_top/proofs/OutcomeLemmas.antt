@@ -1,9 +1,8 @@
 -- The results of a load, and of showing what was loaded.
-use Rattle.std.proofs.Common.{◌≡◌, ◌≢◌, ◌∙◌, inl, inr, ℕ, ◌+◌, ◌≤◌, Bool, true, false, Option, Some, Result, Ok, refl, sym, ap, subst, arith}
+use Rattle.std.proofs.Common.{◌≡◌, ◌∙◌, inr, ℕ, ◌+◌, ◌≤◌, Bool, true, false, Option, Some, Result, Ok, refl, sym, ap, subst, arith}
 use Rattle.std.specs.Prelude.{◌*◌}
 use mathlib.Core.Logic.{∥∥₁_map}
 use Rattle.std.proofs.lemmas.Bool.{false≢true}
-use Rattle.std.proofs.lemmas.Option.{same_Some}
 use Rattle.hippo_values.specs.Texts.{Txt}
 use Rattle.hippo_io.specs.Told.{Appends, AppendsFront}
 use Rattle.hippo_model.specs.Stores.{IsStoreOf}
@@ -14,20 +13,17 @@ use Rattle.hippo_keeper.specs.Keeping.{Store, Survivors, RisesAbove, KeeperState
 use Rattle.hippo_keeper.specs.Selecting.{stored_versions}
 use Rattle.hippo_typing.specs.Meanings.{meaning}
 use Rattle.hippo_replay.specs.declared.faults.LoadFault.{LoadFault}
-use Rattle.hippo_replay.specs.declared.faults.LoadFault.TheVariants.{Keeper, Damaged as DamagedAt, Memory}
+use Rattle.hippo_replay.specs.declared.faults.LoadFault.TheVariants.{Keeper, Memory}
 use Rattle.hippo_replay.specs.declared.state.State.{State}
 use Rattle.hippo_replay.specs.Loading.{load_as_call as as_load_call, KeepsFound, IsLoaded, Loads}
 use Rattle.hippo_keeper.proofs.CallLemmas.{IsAfterCall-then}
 use Rattle.hippo_replay.proofs.LoadingLemmas.{Loads-ready}
 use Rattle.hippo_keeper.proofs.Results.{ok_of, err_of}
-use Rattle.hippo_program_args.specs.Starting.{Stops}
-use Rattle.hippo_program_args.proofs.StartLemmas.{ends_by_stop}
 use Rattle.hippo_history_top.specs.declared.asking.View.{View}
 use Rattle.hippo_program_args.specs.declared.endings.Ending.{Ending}
 use Rattle.hippo_program_args.specs.declared.endings.Ending.TheVariants.{Served, Refused, KeeperFault, ReadFault, WriteFault, Damaged, NoMemory, TooMuch}
-use Rattle.hippo_program_args.specs.Endings.{ending_as_call, stop_ending}
+use Rattle.hippo_program_args.specs.Endings.{ending_as_call}
 use Rattle.hippo_history_top.specs.Endings.{ends_showing}
-use Rattle.hippo_history_top.specs.Saying.{CountsWrites}
 use Rattle.hippo_history_top.specs.Showing.{shown_text}
 use Rattle.hippo_history_top.specs.Progress.{HasForms, ShowsLoaded}
 use Rattle.hippo_history_top.specs.Outcomes.{FromKept, Ends}

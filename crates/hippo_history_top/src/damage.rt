@@ -1,5 +1,5 @@
 //! What is shown of a damaged store: the history before the damage, and then the place.
-ghost use Rattle.std.specs.Prelude.{◌≡◌, ◌<◌};
+ghost use Rattle.std.specs.Prelude.{◌≡◌, ◌<◌, false};
 ghost use Rattle.hippo_keeper.specs.Keeping.{RisesAbove, IsReady};
 ghost use Rattle.hippo_keeper.specs.MemoryKeeping.{memory_keeper_state};
 ghost use Rattle.hippo_history_top.specs.Damage.{ThenPlace, ShowsCopied, ShowsDamaged};

@@ -1,5 +1,5 @@
 //! Copies of the first entries that a keeper stores.
-ghost use Rattle.std.specs.Prelude.{◌≡◌, ◌-◌, ◌≤◌, ◌++◌, [], min, length, OnOk};
+ghost use Rattle.std.specs.Prelude.{◌≡◌, ◌-◌, ◌≤◌, ◌++◌, true, [], min, length, OnOk};
 ghost use Rattle.hippo_keeper.specs.Keeping.{last_number, IsReady};
 ghost use Rattle.hippo_history_top.specs.Fronts.{CopiesNext, CopiesFront};
 ghost use Rattle.hippo_history_top.specs.Progress.{IsReadable};

@@ -100,4 +100,3 @@ returns-in-Err-Memory-clause-tells g c = TellsOnceStarted-opened c.args.store.no
 pub returns-in-Ok-clause-tells : goal.returns-in-Ok-clause-tells
 returns-in-Ok-clause-tells g c =
     TellsOnceStarted-then c.args.store.now (g.P.Keeper.state c.args.keeper.now) (g.P.Keeper.state c.load.new.keeper) (g.P.Keeper.state c.show_view.new.keeper) (c.in-Ok.ensures.loads.started refl) c.in-Ok.ensures.loads.opened c.show_view.ensures.shows.call.telling
-
