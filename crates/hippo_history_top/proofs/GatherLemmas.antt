@@ -1,5 +1,5 @@
 -- Gathering from the stored entries, one piece after another.
-use Rattle.std.proofs.Common.{◌≡◌, ◌∙◌, ◌↔◌, ℕ, ◌+◌, ◌^◌, ◌<◌, ◌≤◌, Bool, true, false, not, [], ◌∷◌, ◌++◌, length, take, drop, get_or, Option, Some, None, Result, Ok, Err, OnOk, IsTrue, refl, sym, ap, subst, append_assoc, arith}
+use Rattle.std.proofs.Common.{◌≡◌, ◌∙◌, ◌↔◌, ℕ, ◌+◌, ◌^◌, ◌<◌, Bool, true, false, not, [], ◌∷◌, ◌++◌, length, take, drop, get_or, Some, None, Result, Ok, Err, OnOk, IsTrue, refl, sym, ap, subst, append_assoc, arith}
 use Rattle.std.proofs.lemmas.List.{append-nil, take-append-drop}
 use Rattle.hippo_model.specs.declared.entry.Entry.{Entry}
 use Rattle.hippo_model.specs.declared.stored.StoredEntry.{StoredEntry}
@@ -16,7 +16,7 @@ use Rattle.hippo_replay.proofs.KeeperLemmas.{selected_entries-remaining, nothing
 use Rattle.hippo_replay.proofs.ReadingLemmas.{versions-append, none_by, some_by}
 use Rattle.hippo_replay.proofs.TakingInLemmas.{take_at_entry}
 use Rattle.hippo_history_top.specs.Gathering.{Gathers, reading_of, GathersNext, IsGathering, GathersAll}
-use Rattle.hippo_history_top.specs.Progress.{HasForms, IsReadUpTo}
+use Rattle.hippo_history_top.specs.Progress.{IsReadUpTo}
 use Rattle.hippo_history_top.proofs.EntryLemmas.{one_entry, no_entry}
 use Rattle.hippo_history_top.proofs.KeptLemmas.{split, no_entries, last-both, last_above}
 

@@ -1,5 +1,5 @@
 -- What is shown after something was gathered from all stored entries.
-use Rattle.std.proofs.Common.{◌≡◌, ◌≢◌, ◌∙◌, ℕ, ◌+◌, ◌≤◌, true, false, [], ◌++◌, List, take, Option, Some, unwrap_or, Ok, Err, Result, refl, sym, ap, subst, arith}
+use Rattle.std.proofs.Common.{◌≡◌, ◌≢◌, ◌∙◌, ℕ, ◌+◌, ◌≤◌, true, false, [], List, take, Option, Some, unwrap_or, Result, refl, sym, ap, arith}
 use Rattle.hippo_values.specs.Texts.{Txt}
 use Rattle.hippo_values.specs.declared.moments.Moment.{Moment}
 use Rattle.hippo_model.specs.Terms.{History}
@@ -27,7 +27,7 @@ use Rattle.hippo_history_top.specs.Dating.{entries_to, moments_of, count_to, dat
 use Rattle.hippo_history_top.specs.Endings.{ends_showing, ending_of}
 use Rattle.hippo_history_top.specs.Gathering.{GathersAll}
 use Rattle.hippo_history_top.specs.Granting.{grants_of, grants_shown}
-use Rattle.hippo_history_top.specs.Progress.{HasForms, WritesPage, ShowsLoaded}
+use Rattle.hippo_history_top.specs.Progress.{WritesPage, ShowsLoaded}
 use Rattle.hippo_history_top.specs.Ruling.{rules_by_names}
 use Rattle.hippo_history_top.specs.Saying.{Writes}
 use Rattle.hippo_history_top.specs.Showing.{shown_text}

@@ -9,6 +9,8 @@ mod NameLemmas
 mod PolicyLemmas
 mod PageLemmas
 mod DigestLemmas
+mod FrontLemmas
+mod DamageLemmas
 mod GatherLemmas
 mod GatheredLemmas
 mod MomentLemmas

@@ -1,9 +1,8 @@
 -- The results of a load, and of showing what was loaded.
-use Rattle.std.proofs.Common.{◌≡◌, ◌≢◌, ◌∙◌, inl, inr, ℕ, ◌+◌, ◌≤◌, Bool, true, false, Option, Some, Result, Ok, refl, sym, ap, subst, arith}
+use Rattle.std.proofs.Common.{◌≡◌, ◌∙◌, inr, ℕ, ◌+◌, ◌≤◌, Bool, true, false, Option, Some, Result, Ok, refl, sym, ap, subst, arith}
 use Rattle.std.specs.Prelude.{◌*◌}
 use mathlib.Core.Logic.{∥∥₁_map}
 use Rattle.std.proofs.lemmas.Bool.{false≢true}
-use Rattle.std.proofs.lemmas.Option.{same_Some}
 use Rattle.hippo_values.specs.Texts.{Txt}
 use Rattle.hippo_io.specs.Told.{Appends, AppendsFront}
 use Rattle.hippo_model.specs.Stores.{IsStoreOf}
@@ -14,26 +13,23 @@ use Rattle.hippo_keeper.specs.Keeping.{Store, Survivors, RisesAbove, KeeperState
 use Rattle.hippo_keeper.specs.Selecting.{stored_versions}
 use Rattle.hippo_typing.specs.Meanings.{meaning}
 use Rattle.hippo_replay.specs.declared.faults.LoadFault.{LoadFault}
-use Rattle.hippo_replay.specs.declared.faults.LoadFault.TheVariants.{Keeper, Damaged as DamagedAt, Memory}
+use Rattle.hippo_replay.specs.declared.faults.LoadFault.TheVariants.{Keeper, Memory}
 use Rattle.hippo_replay.specs.declared.state.State.{State}
 use Rattle.hippo_replay.specs.Loading.{load_as_call as as_load_call, KeepsFound, IsLoaded, Loads}
 use Rattle.hippo_keeper.proofs.CallLemmas.{IsAfterCall-then}
 use Rattle.hippo_replay.proofs.LoadingLemmas.{Loads-ready}
 use Rattle.hippo_keeper.proofs.Results.{ok_of, err_of}
-use Rattle.hippo_program_args.specs.Starting.{Stops}
-use Rattle.hippo_program_args.proofs.StartLemmas.{ends_by_stop}
 use Rattle.hippo_history_top.specs.declared.asking.View.{View}
 use Rattle.hippo_program_args.specs.declared.endings.Ending.{Ending}
 use Rattle.hippo_program_args.specs.declared.endings.Ending.TheVariants.{Served, Refused, KeeperFault, ReadFault, WriteFault, Damaged, NoMemory, TooMuch}
-use Rattle.hippo_program_args.specs.Endings.{ending_as_call, stop_ending}
+use Rattle.hippo_program_args.specs.Endings.{ending_as_call}
 use Rattle.hippo_history_top.specs.Endings.{ends_showing}
-use Rattle.hippo_history_top.specs.Saying.{CountsWrites}
 use Rattle.hippo_history_top.specs.Showing.{shown_text}
 use Rattle.hippo_history_top.specs.Progress.{HasForms, ShowsLoaded}
 use Rattle.hippo_history_top.specs.Outcomes.{FromKept, Ends}
 
 -- what was found is still stored
-found_still : (finds : Survivors) (before after : KeeperState) → KeepsFound finds before → KeepsSame before after → KeepsFound finds after
+pub found_still : (finds : Survivors) (before after : KeeperState) → KeepsFound finds before → KeepsSame before after → KeepsFound finds after
 found_still finds before after found keeps =
     let alone : (store : Store) → after.survives store → store ≡ after.kept = λ store survives. found.alone store (keeps.stop store survives) ∙ sym keeps.same in
     record {
@@ -44,7 +40,7 @@ found_still finds before after found keeps =
     }
 
 -- the promises of a call hold of the keeper as it is afterwards
-as_it_is : {A : Type 0} (started closed : Bool) (result : Result A Fault) (before after : KeeperState) → IsAfterCall started closed result before after → IsAfterCall after.started after.closed result before after
+pub as_it_is : {A : Type 0} (started closed : Bool) (result : Result A Fault) (before after : KeeperState) → IsAfterCall started closed result before after → IsAfterCall after.started after.closed result before after
 as_it_is started closed result before after call = record {
   is_sound = call.is_sound;
   started_is = refl;
@@ -129,51 +125,18 @@ module _ (name : Txt) (view : View) (state : State) (before loaded after : Keepe
     by_ending KeeperFault unwritten is = inr front
     by_ending WriteFault unwritten is = inr front
     by_ending Damaged unwritten is = absurd (undamaged is)
-    by_ending NoMemory unwritten is = inr front
+    by_ending NoMemory unwritten is = inr (inr front)
 
     pub show_ends : (unwritten : Type 0) → Ends result unwritten view name before after written written'
     show_ends unwritten = by_ending result unwritten refl
 
-module _ (name : Txt) (view : View) (before after : KeeperState) (written written' : Option Txt) (faults faults' start end : ℕ) where
-  -- the history was not loaded
-  pub stop_ends : (fault : LoadFault) (result : Ending) (unwritten : Type 0) → Stops stop_ending WriteFault fault result unwritten written written' faults faults'
-      → Loads name (err_of State fault) before after start end → after.tells → Ends result unwritten view name before after written written'
-  stop_ends fault result unwritten =
-      ends_by_stop name before after start end stop_ending WriteFault (λ r. Ends r unwritten view name before after written written') unwritten written written' faults faults'
-      (λ same idle. inl (same, idle)) (λ same idle. inl (same, idle)) (λ place said. said) (λ begun. inl begun) fault result
+-- the history was not loaded, because the keeper failed or memory ran out
+module _ (name : Txt) (before after : KeeperState) (start end : ℕ) where
+  pub failed_call : Loads name (err_of State Keeper) before after start end → IsAfterCall after.started after.closed (ending_as_call KeeperFault) before after
+  failed_call loads = as_it_is _ _ (ending_as_call KeeperFault) before after loads.call
 
-  other_than : {ending : Ending} (result : Ending) → result ≡ ending → ending ≢ WriteFault → Some result ≢ Some WriteFault
-  other_than result is other e = other (sym is ∙ same_Some result WriteFault e)
-
-  pub stop_writes : (fault : LoadFault) (result : Ending) (unwritten : Type 0) → Stops stop_ending WriteFault fault result unwritten written written' faults faults' → CountsWrites (Some result) faults faults'
-  stop_writes Keeper result unwritten stops = record { cause = λ e. absurd (other_than result stops.0 (λ e. cc) e); unfailed = λ e. stops.2 }
-  stop_writes (DamagedAt place) result unwritten stops =
-      elim stops [
-        | inl all ↦ record { cause = λ e. absurd (other_than result all.0 (λ e. cc) e); unfailed = λ e. all.2 }
-        | inr front ↦ record { cause = λ e. front.2; unfailed = λ e. absurd (e (ap Some front.0)) }
-      ]
-  stop_writes Memory result unwritten stops = record { cause = λ e. absurd (other_than result stops.0 (λ e. cc) e); unfailed = λ e. stops.2 }
-
-  pub stop_status : (fault : LoadFault) (result : Ending) (unwritten : Type 0) → Stops stop_ending WriteFault fault result unwritten written written' faults faults' → ends_showing (Some result) ≡ true
-  stop_status Keeper result unwritten stops = ap (λ (e : Ending). ends_showing (Some e)) stops.0
-  stop_status (DamagedAt place) result unwritten stops =
-      elim stops [
-        | inl all ↦ ap (λ (e : Ending). ends_showing (Some e)) all.0
-        | inr front ↦ ap (λ (e : Ending). ends_showing (Some e)) front.0
-      ]
-  stop_status Memory result unwritten stops = ap (λ (e : Ending). ends_showing (Some e)) stops.0
-
-  pub stop_call : (fault : LoadFault) (result : Ending) (unwritten : Type 0) → Stops stop_ending WriteFault fault result unwritten written written' faults faults'
-      → Loads name (err_of State fault) before after start end → IsAfterCall after.started after.closed (ending_as_call result) before after
-  stop_call Keeper result unwritten stops loads =
-      subst (λ (r : Ending). IsAfterCall after.started after.closed (ending_as_call r) before after) (sym stops.0) (as_it_is _ _ (ending_as_call KeeperFault) before after loads.call)
-  stop_call (DamagedAt place) result unwritten stops loads =
-      elim stops [
-        | inl all ↦ subst (λ (r : Ending). IsAfterCall after.started after.closed (ending_as_call r) before after) (sym all.0) (as_it_is _ _ (ending_as_call Damaged) before after loads.call)
-        | inr front ↦ subst (λ (r : Ending). IsAfterCall after.started after.closed (ending_as_call r) before after) (sym front.0) (as_it_is _ _ (ending_as_call WriteFault) before after loads.call)
-      ]
-  stop_call Memory result unwritten stops loads =
-      subst (λ (r : Ending). IsAfterCall after.started after.closed (ending_as_call r) before after) (sym stops.0) (of_memory loads.call)
+  pub short_call : Loads name (err_of State Memory) before after start end → IsAfterCall after.started after.closed (ending_as_call NoMemory) before after
+  short_call loads = of_memory loads.call
     where
       of_memory : {started closed : Bool} → IsAfterCall started closed (as_load_call (err_of State Memory)) before after → IsAfterCall after.started after.closed (ending_as_call NoMemory) before after
       of_memory call = record {
@@ -190,5 +153,5 @@ module _ (name : Txt) (view : View) (before after : KeeperState) (written writte
         };
       }
 
-  pub stop_steps : (fault : LoadFault) → Loads name (err_of State fault) before after start end → after.tells → end ≤ start + 2 * stored_versions after.kept
-  stop_steps fault loads tells = let one = loads.steps tells in omega (arith, one)
+  pub unloaded_steps : (fault : LoadFault) → Loads name (err_of State fault) before after start end → after.tells → end ≤ start + 2 * stored_versions after.kept
+  unloaded_steps fault loads tells = let one = loads.steps tells in omega (arith, one)

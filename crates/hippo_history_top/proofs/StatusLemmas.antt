@@ -6,12 +6,13 @@ use Rattle.hippo_values.specs.Texts.{Txt}
 use Rattle.hippo_io.specs.Faults.{HasRisen}
 use Rattle.hippo_keeper.specs.Keeping.{KeeperState, IsAfterCall}
 use Rattle.hippo_program_args.specs.Saying.{Says}
-use Rattle.hippo_program_args.specs.Starting.{IsIdle, SaysDamaged, BeginsDamaged}
+use Rattle.hippo_program_args.specs.Starting.{IsIdle}
 use Rattle.hippo_history_top.specs.declared.asking.Call.{Call}
 use Rattle.hippo_history_top.specs.declared.asking.View.{View}
 use Rattle.hippo_program_args.specs.declared.endings.Ending.{Ending}
 use Rattle.hippo_program_args.specs.declared.endings.Ending.TheVariants.{Served, Refused, KeeperFault, WriteFault, Damaged, NoMemory}
 use Rattle.hippo_program_args.specs.Endings.{status_of, ending_as_call}
+use Rattle.hippo_history_top.specs.Damage.{ShowsToDamage, BeginsToDamage}
 use Rattle.hippo_history_top.specs.Endings.{ends_showing, showing_statuses}
 use Rattle.hippo_history_top.specs.Saying.{CountsWrites}
 use Rattle.hippo_history_top.specs.Outcomes.{ShowsView, BeginsView, Ends}
@@ -42,9 +43,9 @@ module _ (view : View) (name : Txt) (before after : KeeperState) (written writte
   abbrev pub ByStatus : ℕ → Type 0
   ByStatus status = (status ≡ 0 → ShowsView view name before after written written')
       × (status ≡ 3 → (unwritten × IsIdle name before after) ⊎ BeginsView view name before after written written')
-      × (status ≡ 5 → BeginsDamaged name before after written written' ⊎ BeginsView view name before after written written')
-      × (status ≡ 6 → SaysDamaged name before after written written')
-      × (status ≡ 7 → (unwritten × IsIdle name before after) ⊎ BeginsView view name before after written written')
+      × (status ≡ 5 → BeginsToDamage view name before after written written' ⊎ BeginsView view name before after written written')
+      × (status ≡ 6 → ShowsToDamage view name before after written written')
+      × (status ≡ 7 → (unwritten × IsIdle name before after) ⊎ (BeginsToDamage view name before after written written' ⊎ BeginsView view name before after written written'))
 
   pub by_status : (ending : Ending) → Ends ending unwritten view name before after written written' → ByStatus (status_of ending)
   by_status Served ends = (λ e. ends, λ e. absurd (omega (arith, e)), λ e. absurd (omega (arith, e)), λ e. absurd (omega (arith, e)), λ e. absurd (omega (arith, e)))

@@ -7,9 +7,10 @@ use Rattle.hippo_keeper.specs.Selecting.{stored_versions}
 use Rattle.hippo_keeper.specs.Telling.{TellsOnceStarted}
 use Rattle.hippo_program_start.specs.Hosts.{HostState, IsUnread, IsSilent, IsSameKeeper}
 use Rattle.hippo_program_start.specs.Statuses.{AnswersAmong, ReportsFault}
-use Rattle.hippo_program_args.specs.Starting.{IsIdle, SaysDamaged, BeginsDamaged}
+use Rattle.hippo_program_args.specs.Starting.{IsIdle}
 use Rattle.hippo_history_top.specs.declared.asking.Call.{Call as AskedCall}
 use Rattle.hippo_history_top.specs.CommandLine.{asked_of}
+use Rattle.hippo_history_top.specs.Damage.{ShowsToDamage, BeginsToDamage}
 use Rattle.hippo_history_top.specs.Endings.{showing_statuses}
 use Rattle.hippo_history_top.specs.Outcomes.{ShowsView, BeginsView}
 use Rattle.hippo_history_top.specs.Saying.{showing_usage, missing_line}
@@ -27,6 +28,16 @@ ShowsWhole call before after =
 abbrev pub ShowsFront : AskedCall → HostState → HostState → Type 0
 ShowsFront call before after =
     BeginsView call.view call.store before.keeper after.keeper before.written after.written
+
+-- what is asked for of the history before the damage is shown, and then the place; or a prefix of
+-- that
+abbrev pub ShowsDamagedStore : AskedCall → HostState → HostState → Type 0
+ShowsDamagedStore call before after =
+    ShowsToDamage call.view call.store before.keeper after.keeper before.written after.written
+
+abbrev pub BeginsDamagedStore : AskedCall → HostState → HostState → Type 0
+BeginsDamagedStore call before after =
+    BeginsToDamage call.view call.store before.keeper after.keeper before.written after.written
 
 -- nothing is written, and what is stored is as it was found
 abbrev pub StaysIdle : AskedCall → HostState → HostState → Type 0
@@ -62,13 +73,10 @@ pub record ShowsAsked (answers : StoreAnswers) (call : AskedCall) (status : ℕ)
   pub keeper_cut : status ≡ 3 → SaysMissing answers call before after
       ⊎ (after.keeper.tells → StaysIdle call before after ⊎ ShowsFront call before after)
   pub write_cut : status ≡ 5 → BeginsMissing answers call before after
-      ⊎ (after.keeper.tells
-      → BeginsDamaged call.store before.keeper after.keeper before.written after.written
-      ⊎ ShowsFront call before after)
-  pub damaged : status ≡ 6 → after.keeper.tells
-      → SaysDamaged call.store before.keeper after.keeper before.written after.written
-  pub memory_cut : status ≡ 7 → after.keeper.tells
-      → StaysIdle call before after ⊎ ShowsFront call before after
+      ⊎ (after.keeper.tells → BeginsDamagedStore call before after ⊎ ShowsFront call before after)
+  pub damaged : status ≡ 6 → after.keeper.tells → ShowsDamagedStore call before after
+  pub memory_cut : status ≡ 7 → after.keeper.tells → StaysIdle call before after
+      ⊎ (BeginsDamagedStore call before after ⊎ ShowsFront call before after)
   pub same : after.keeper.tells → IsIdle call.store before.keeper after.keeper
 
 -- how the program ends, given what may be answered about stores; it reads no input

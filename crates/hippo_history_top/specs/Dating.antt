@@ -2,7 +2,6 @@
 use Rattle.std.specs.Prelude.{ℕ, ◌-◌, ◌==◌, Bool, List, map, filter, count_by, nat_le, int_le, slice_get, Option, None, if◌then◌else◌}
 use Rattle.hippo_values.specs.declared.moments.Moment.{Moment}
 use Rattle.hippo_model.specs.declared.entry.Entry.{Entry}
-use Rattle.hippo_model.specs.Rules.{Rule}
 use Rattle.hippo_model.specs.Terms.{History}
 use Rattle.hippo_report.specs.declared.format.Format.{Format}
 use Rattle.hippo_history_top.specs.declared.asking.Bound.{Bound}

@@ -10,5 +10,7 @@ pub mod ByNames
 pub mod Progress
 pub mod Digesting
 pub mod Gathering
+pub mod Fronts
+pub mod Damage
 pub mod Outcomes
 pub mod Calls

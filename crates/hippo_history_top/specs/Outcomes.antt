@@ -5,10 +5,11 @@ use Rattle.hippo_io.specs.Told.{Appends, AppendsFront}
 use Rattle.hippo_model.specs.Terms.{History}
 use Rattle.hippo_keeper.specs.Keeping.{KeeperState}
 use Rattle.hippo_replay.specs.Loading.{KeepsFound}
-use Rattle.hippo_program_args.specs.Starting.{HoldsOfStored, IsIdle, SaysDamaged, BeginsDamaged}
+use Rattle.hippo_program_args.specs.Starting.{HoldsOfStored, IsIdle}
 use Rattle.hippo_history_top.specs.declared.asking.View.{View}
 use Rattle.hippo_program_args.specs.declared.endings.Ending.{Ending}
 use Rattle.hippo_program_args.specs.declared.endings.Ending.TheVariants.{Served, KeeperFault, WriteFault, Damaged, NoMemory}
+use Rattle.hippo_history_top.specs.Damage.{ShowsToDamage, BeginsToDamage}
 use Rattle.hippo_history_top.specs.Showing.{shown_text}
 
 -- the stored forms of a valid history were found and are stored, and this holds of each history
@@ -36,10 +37,12 @@ Ends Served unwritten view name before after written written' =
 Ends KeeperFault unwritten view name before after written written' =
     (unwritten × IsIdle name before after) ⊎ BeginsView view name before after written written'
 Ends WriteFault unwritten view name before after written written' =
-    BeginsDamaged name before after written written'
+    BeginsToDamage view name before after written written'
     ⊎ BeginsView view name before after written written'
 Ends Damaged unwritten view name before after written written' =
-    SaysDamaged name before after written written'
+    ShowsToDamage view name before after written written'
 Ends NoMemory unwritten view name before after written written' =
-    (unwritten × IsIdle name before after) ⊎ BeginsView view name before after written written'
+    (unwritten × IsIdle name before after)
+    ⊎ (BeginsToDamage view name before after written written'
+    ⊎ BeginsView view name before after written written')
 Ends ending unwritten view name before after written written' = ⊥

@@ -70,8 +70,8 @@ fn cover_piece<G: Gather>(
     Ok(())
 }
 
-// The result of reading a piece, by whether its entries were covered.
-fn reading_of(covered: Result<(), Memory>, any: bool) -> Result<bool, KeeperFault>
+/// The result of reading a piece, by whether its entries were covered.
+pub(crate) fn reading_of(covered: Result<(), Memory>, any: bool) -> Result<bool, KeeperFault>
     ensures { result ≡ reading_of covered any }
 {
     match covered {

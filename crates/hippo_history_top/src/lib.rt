@@ -6,8 +6,10 @@
 mod arguments;
 mod asking;
 mod bounds;
+mod damage;
 mod digest;
 mod endings;
+mod front;
 mod gathering;
 mod lines;
 mod moments;

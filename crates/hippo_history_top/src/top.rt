@@ -7,9 +7,10 @@ ghost use Rattle.hippo_keeper.specs.Keeping.{IsReady, IsAfterCall};
 ghost use Rattle.hippo_keeper.specs.Selecting.{stored_versions};
 ghost use Rattle.hippo_keeper.specs.Telling.{TellsOnceStarted};
 ghost use Rattle.hippo_policy.specs.Books.{BookRepresents};
-ghost use Rattle.hippo_program_args.specs.Starting.{IsIdle, SaysDamaged, BeginsDamaged};
+ghost use Rattle.hippo_program_args.specs.Starting.{IsIdle};
 ghost use Rattle.hippo_replay.specs.declared.state.State.{State as LoadedState};
 ghost use Rattle.hippo_history_top.specs.declared.asking.View.TheVariants.{Rules as RulesView, Users as UsersView};
+ghost use Rattle.hippo_history_top.specs.Damage.{ShowsToDamage, BeginsToDamage};
 ghost use Rattle.hippo_history_top.specs.Dating.{count_to, dated_line};
 ghost use Rattle.hippo_history_top.specs.Granting.{grants_shown};
 ghost use Rattle.hippo_history_top.specs.Ruling.{rules_by_names};
@@ -22,6 +23,7 @@ ghost use Rattle.hippo_history_top.specs.Outcomes.{ShowsView, BeginsView, Ends};
 ghost use Rattle.hippo_history_top.specs.Saying.{showing_usage, missing_line, Writes, CountsWrites};
 
 use crate::asking::{Page, Roster, View};
+use crate::damage::show_damaged;
 use crate::digest::show_digest;
 use crate::endings::{ending_of, served_or};
 use crate::gathering::gather_all;
@@ -35,8 +37,8 @@ use crate::users::{Grants, append_grants};
 use hippo_history_formats::Grant;
 use hippo_io::Sink;
 use hippo_keeper::{CountedKeeper, Steps};
-use hippo_program_args::{Ending, stop};
-use hippo_replay::{State, load};
+use hippo_program_args::Ending;
+use hippo_replay::{LoadFault, State, load};
 use hippo_report::Format;
 use hippo_values::{Memory, Moment, Txt};
 use std::alloc::Global;
@@ -135,8 +137,8 @@ fn show_users<K: Sink, P: CountedKeeper<L>, L: Ledger>(
     }
 }
 
-// Shows what is asked for of the history that a state stands for, and drops the state.
-fn show_view<K: Sink, P: CountedKeeper<L>, L: Ledger>(
+/// Shows what is asked for of the history that a state stands for, and drops the state.
+pub(crate) fn show_view<K: Sink, P: CountedKeeper<L>, L: Ledger>(
     alloc: Global,
     view: &View,
     state: State,
@@ -172,7 +174,7 @@ fn show_view<K: Sink, P: CountedKeeper<L>, L: Ledger>(
     }
 }
 
-// Loads the stored history, and shows what is asked for.
+// Loads the stored history, and shows what is asked for: of a damaged store, up to the damage.
 fn show<K: Sink, P: CountedKeeper<L>, L: Ledger>(
     alloc: Global,
     store: &str,
@@ -197,7 +199,9 @@ fn show<K: Sink, P: CountedKeeper<L>, L: Ledger>(
 {
     match load(keeper, alloc, store, steps) {
         Ok(state) => show_view(alloc, view, state, sink, keeper, steps),
-        Err(fault) => stop(fault, sink),
+        Err(LoadFault::Damaged(place)) => show_damaged(alloc, view, place, sink, keeper, steps),
+        Err(LoadFault::Keeper) => Ending::KeeperFault,
+        Err(LoadFault::Memory) => Ending::NoMemory,
     }
 }
 
@@ -212,16 +216,17 @@ fn show<K: Sink, P: CountedKeeper<L>, L: Ledger>(
 /// - 3: the keeper failed, and what is written is a prefix of what is asked for. Or there is no
 ///   store with this name: a line says so, and the keeper is not started.
 /// - 5: the sink failed. What was written is a prefix of what was to be written.
-/// - 6: the stored entries are those of no valid history. The line `damaged PLACE` is written.
-///   PLACE, counted from 1, is that of the first entry for which the entries up to and including it
-///   are those of no valid history.
-/// - 7: memory ran out. What is written is a prefix of what is asked for.
+/// - 6: the stored entries are those of no valid history. What is asked for of the entries before
+///   the damage is written, and then the line `damaged PLACE`. PLACE, counted from 1, is that of the
+///   first entry for which the entries up to and including it are those of no valid history.
+/// - 7: memory ran out. What is written is a prefix of what is asked for, or of what status 6 says.
 ///
 /// Once the keeper has started, the stored entries stay as they were found. They are read in
-/// pieces. The first read loads the history, so that damage is reported before anything else is
-/// written. A second read shows the entries or computes their digest. For the rules in force it finds
-/// the moments of their entries, and for the authorizations in force the entries that gave them; both
-/// are put together in memory and then written.
+/// pieces. The first read loads the history, or finds its damage. A second read shows the entries or
+/// computes their digest. For the rules in force it finds the moments of their entries, and for the
+/// authorizations in force the entries that gave them; both are put together in memory and then
+/// written. Of a damaged store the second read copies the entries before the damage into memory, and
+/// they are shown from there.
 pub fn history_top<D: Stores, K: Sink, P: CountedKeeper<L>, L: Ledger>(
     alloc: Global,
     words: &[Txt],
@@ -268,19 +273,21 @@ pub fn history_top<D: Stores, K: Sink, P: CountedKeeper<L>, L: Ledger>(
         → (D.Answers stores.now call.store false × (keeper.new ≡ keeper.old)
         × AppendsFront (K.written sink.old) (K.written sink.new) missing_line)
         ⊎ ((P.state keeper.new).tells →
-        BeginsDamaged call.store (P.state keeper.old) (P.state keeper.new) (K.written sink.old)
-        (K.written sink.new)
+        BeginsToDamage call.view call.store
+        (P.state keeper.old) (P.state keeper.new) (K.written sink.old) (K.written sink.new)
         ⊎ BeginsView call.view call.store
         (P.state keeper.old) (P.state keeper.new) (K.written sink.old) (K.written sink.new)) }
     ensures damaged { (call : AskedCall) → asked_of words.now ≡ Some call → result ≡ 6
         → (P.state keeper.new).tells →
-        SaysDamaged call.store (P.state keeper.old) (P.state keeper.new) (K.written sink.old)
-        (K.written sink.new) }
+        ShowsToDamage call.view call.store
+        (P.state keeper.old) (P.state keeper.new) (K.written sink.old) (K.written sink.new) }
     ensures memory_cut { (call : AskedCall) → asked_of words.now ≡ Some call → result ≡ 7
         → (P.state keeper.new).tells →
         ((sink.new ≡ sink.old) × IsIdle call.store (P.state keeper.old) (P.state keeper.new))
+        ⊎ (BeginsToDamage call.view call.store
+        (P.state keeper.old) (P.state keeper.new) (K.written sink.old) (K.written sink.new)
         ⊎ BeginsView call.view call.store
-        (P.state keeper.old) (P.state keeper.new) (K.written sink.old) (K.written sink.new) }
+        (P.state keeper.old) (P.state keeper.new) (K.written sink.old) (K.written sink.new)) }
 
     // What is stored stays as it was found, and each version in it is read at most twice.
     ensures same { (call : AskedCall) → asked_of words.now ≡ Some call

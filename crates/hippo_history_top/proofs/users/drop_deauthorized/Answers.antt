@@ -1,5 +1,5 @@
 -- What an act takes back is dropped; another act drops nothing.
-use Rattle.std.proofs.Common.{◌∙◌, List, filter, ap, sym}
+use Rattle.std.proofs.Common.{◌∙◌, filter, ap, sym}
 use Rattle.hippo_model.specs.declared.entry.Act.{Act}
 use Rattle.hippo_history_top.specs.Granting.{is_left_by}
 use Rattle.hippo_history_top.proofs.GrantLemmas.{left_by_other}

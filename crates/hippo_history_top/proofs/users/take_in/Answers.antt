@@ -1,9 +1,7 @@
 -- An authorization is added, or one is dropped, or nothing changes.
-use Rattle.std.proofs.Common.{◌∙◌, ◌++◌, [], List, filter, ap, sym, subst, OnOk, ◌≡◌}
+use Rattle.std.proofs.Common.{◌∙◌, ◌++◌, [], filter, sym, subst, OnOk, ◌≡◌}
 use Rattle.hippo_model.specs.declared.entry.Act.{Act}
-use Rattle.hippo_history_formats.specs.declared.grants.Grant.{Grant}
 use Rattle.hippo_history_top.specs.Granting.{is_left_by, granted}
-use Rattle.hippo_history_top.proofs.GatherLemmas.{ok_so}
 use Rattle.hippo_history_top.proofs.GrantLemmas.{granted_by_other}
 use Rattle.hippo_history_top.proofs.users.take_in.Goals as goal
 
