@@ -2,6 +2,7 @@
 //! (RFC 8259) or of CSV (RFC 4180).
 #![tactic(auto)]
 
+mod access;
 mod grants;
 mod members;
 mod objects;
@@ -11,6 +12,7 @@ mod ruled;
 mod rulings;
 mod told;
 
+pub use access::{Access, DeniedCell, SeenCell};
 pub use grants::{Grant, append_grant};
 pub use questions::{Question, question_of};
 pub use ruled::append_rule_line;
