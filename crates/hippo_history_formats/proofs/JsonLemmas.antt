@@ -41,10 +41,10 @@ has_float-value (values.Int (negsuc n)) = refl
 has_float-value (values.Text text) = refl
 has_float-value (values.Day day) = refl
 
-has_float-list : {A : Type 0} (data : A → Data) → ((member : A) → has_float (data member) ≡ false)
-    → (members : List A) → has_float (list_data data members) ≡ false
-has_float-list data none [] = refl
-has_float-list data none (first ∷ rest) = rw (none first, has_float-list data none rest) refl
+has_float-list : {A : Type 0} (form : A → Data) → ((member : A) → has_float (form member) ≡ false)
+    → (members : List A) → has_float (list_data form members) ≡ false
+has_float-list form none [] = refl
+has_float-list form none (first ∷ rest) = rw (none first, has_float-list form none rest) refl
 
 has_float-seen : (seen : SeenCell) → has_float (seen_data seen) ≡ false
 has_float-seen seen = rw (has_float-value seen.value) refl

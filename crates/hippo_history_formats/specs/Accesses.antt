@@ -60,7 +60,7 @@ denied_data denied =
     (member (codes "rule") (number (unsigned denied.rule)) no_members))
 
 abbrev pub list_data : {A : Type 0} → (A → Data) → List A → Data
-list_data data members = array (items_of (map data members))
+list_data form members = array (items_of (map form members))
 
 -- an object with its members sorted by their keys
 abbrev pub access_data : Access → Data

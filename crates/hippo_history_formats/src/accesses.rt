@@ -21,10 +21,7 @@ use std::alloc::Global;
 
 const HEADER: &str = "entry,moment,user,purpose,recipient,table,key,shown,tested,denied\n";
 
-fn append_seen<const ROOM: usize>(
-    seen: &SeenCell,
-    out: &mut RoomyTxt<ROOM>,
-) -> Result<(), Memory>
+fn append_seen<const ROOM: usize>(seen: &SeenCell, out: &mut RoomyTxt<ROOM>) -> Result<(), Memory>
     ensures adds { AppendsText (seen_text seen.now) result out.old out.new }
 {
     out.append(seen.column.as_str())?;
@@ -116,12 +113,7 @@ fn append_text(access: &Access, moment: &str, out: &mut Txt) -> Result<(), Memor
     out.append("\n")
 }
 
-fn append_json(
-    alloc: Global,
-    access: &Access,
-    moment: &str,
-    out: &mut Txt,
-) -> Result<(), Memory>
+fn append_json(alloc: Global, access: &Access, moment: &str, out: &mut Txt) -> Result<(), Memory>
     requires moment { moment.now ≡ moment_text access.now.moment }
     ensures { OnOk result (out.new ≡ out.old ++ json_line (access_data access.now)) }
 {
