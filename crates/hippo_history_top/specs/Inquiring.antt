@@ -5,11 +5,13 @@ use Rattle.hippo_model.specs.declared.entry.Entry.{Entry}
 use Rattle.hippo_model.specs.Terms.{History}
 use Rattle.hippo_report.specs.declared.format.Format.{Format}
 use Rattle.hippo_audit_job.specs.Examining.{IsPastOf}
+use Rattle.hippo_replay.specs.Standing.{Represents}
+use Rattle.hippo_replay.specs.declared.state.State.{State}
 use Rattle.hippo_history_formats.specs.declared.access.Access.{Access}
 use Rattle.hippo_history_formats.specs.Accesses.{access_header, access_line}
 use Rattle.hippo_history_uses.specs.Disclosing.{AreDisclosed}
-use Rattle.hippo_history_uses.specs.Questions.{accesses_of}
-use Rattle.hippo_history_uses.specs.declared.disclosures.Disclosures.{Disclosures}
+use Rattle.hippo_history_uses.specs.Accesses.{accesses_of}
+use Rattle.hippo_history_uses.specs.declared.disclosing.Disclosures.{Disclosures}
 use Rattle.hippo_history_top.specs.declared.asking.Inquiry.{Inquiry}
 use Rattle.hippo_history_top.specs.declared.disclosing.Sought.{Sought}
 use Rattle.hippo_history_top.specs.Dating.{is_from, is_to}
@@ -31,3 +33,7 @@ abbrev pub HasFound : Sought → Disclosures → History → Type 0
 HasFound sought found read =
     (history later : History) → IsPastOf sought.past history → history ≡ read ++ later
     → AreDisclosed sought.inquiry.now.patient (is_inquired sought.inquiry.now) history read found
+
+-- what is searched for knows the past of each history that a state stands for
+abbrev pub KnowsPast : Sought → State → Type 0
+KnowsPast sought state = (history : History) → Represents state history → IsPastOf sought.past history

@@ -1,6 +1,6 @@
 //! What a store holds, in a form that people can read: its entries, the rules or the authorizations
-//! in force, a digest of its entries, or what was disclosed of a patient. This crate has the command line, the top function and the
-//! program that calls it.
+//! in force, a digest of its entries, or what was disclosed of a patient. This crate has the command
+//! line, the top function and the program that calls it.
 #![tactic(auto)]
 
 mod arguments;
@@ -12,6 +12,7 @@ mod endings;
 mod gathering;
 mod lines;
 mod moments;
+mod patients;
 mod printing;
 mod program;
 mod reading;
