@@ -18,7 +18,7 @@ use Rattle.hippo_history_top.specs.declared.asking.Inquiry.{Inquiry}
 use Rattle.hippo_history_top.specs.declared.asking.View.TheVariants.{Patient}
 use Rattle.hippo_history_top.specs.declared.disclosing.Sought.{Sought}
 use Rattle.hippo_history_top.specs.Gathering.{GathersAll}
-use Rattle.hippo_history_top.specs.Inquiring.{is_inquired, accesses_asked, accesses_shown, HasFound, KnowsPast}
+use Rattle.hippo_history_top.specs.Inquiring.{is_inquired, accesses_asked, accesses_shown, FindsAccesses, KnowsPast}
 use Rattle.hippo_history_top.specs.Progress.{ShowsLoaded}
 use Rattle.hippo_history_top.specs.Saying.{Writes}
 use Rattle.hippo_history_top.specs.Showing.{shown_text}
@@ -27,14 +27,14 @@ use Rattle.hippo_history_top.proofs.PageLemmas.{page_written}
 
 -- one more entry was taken in
 pub found-more : (sought : Sought) (entry : Entry) (within : Bool) (old new : Disclosures) → within ≡ is_inquired sought.inquiry.now entry → TakesIn sought.past entry within old new
-    → (read : History) → HasFound sought old read → HasFound sought new (read ++ entry ∷ [])
+    → (read : History) → FindsAccesses sought old read → FindsAccesses sought new (read ++ entry ∷ [])
 found-more sought entry within old new is takes read so history later past whole =
     let longer : history ≡ read ++ entry ∷ later = whole ∙ append_assoc read (entry ∷ []) later in
     takes sought.inquiry.now.patient (is_inquired sought.inquiry.now) history read later is (record { past_is = past; whole = longer })
     (so history (entry ∷ later) past longer)
 
 -- nothing was read yet
-pub found-nothing : (sought : Sought) (found : Disclosures) → ((test : Entry → Bool) (history : History) → AreDisclosed sought.inquiry.now.patient test history [] found) → HasFound sought found []
+pub found-nothing : (sought : Sought) (found : Disclosures) → ((test : Entry → Bool) (history : History) → AreDisclosed sought.inquiry.now.patient test history [] found) → FindsAccesses sought found []
 found-nothing sought found new history later past whole = new (is_inquired sought.inquiry.now) history
 
 -- all entries were read, and the accesses are those of the history
@@ -42,15 +42,15 @@ module _ (sought : Sought) (state : State) (knows : KnowsPast sought state) (sta
   abbrev inquiry : Inquiry
   inquiry = sought.inquiry.now
 
-  accesses_found : (history : History) → HasFound sought found history → Represents state history → found.accesses ≡ accesses_asked inquiry history
+  accesses_found : (history : History) → FindsAccesses sought found history → Represents state history → found.accesses ≡ accesses_asked inquiry history
   accesses_found history so stands = (so history [] (knows history stands) (sym (append-nil history))).accesses_are
 
-  pub loaded_patient : HasFound sought start [] → GathersAll (HasFound sought start) (HasFound sought found) (well Fault) before after ticks ticks'
+  pub loaded_patient : FindsAccesses sought start [] → GathersAll (FindsAccesses sought start) (FindsAccesses sought found) (well Fault) before after ticks ticks'
       → Writes (accesses_shown inquiry.format found.accesses) cut written written' faults faults'
       → ShowsLoaded state (Patient inquiry) (unwrap_or cut Served) before after written written' faults faults' ticks ticks'
   loaded_patient none all writes =
       let text : Txt = accesses_shown inquiry.format found.accesses in
       let IsText : History → Type 0 = λ history. text ≡ shown_text (Patient inquiry) history in
-      gathered_page (HasFound sought start) (HasFound sought found) state before after ticks ticks' (Patient inquiry) all none IsText
+      gathered_page (FindsAccesses sought start) (FindsAccesses sought found) state before after ticks ticks' (Patient inquiry) all none IsText
       (λ history. shown_text (Patient inquiry) history) (λ history so stands. (ap (accesses_shown inquiry.format) (accesses_found history so stands), refl)) written written' faults faults' cut
       (page_written IsText (λ history. shown_text (Patient inquiry) history) written faults written' faults' text (λ history is. is) cut writes)

@@ -29,11 +29,12 @@ abbrev pub accesses_shown : Format → List Access → Txt
 accesses_shown format accesses = access_header format ++ flat_map (access_line format) accesses
 
 -- these accesses are those of the entries read so far, whatever entries follow
-abbrev pub HasFound : Sought → Disclosures → History → Type 0
-HasFound sought found read =
+abbrev pub FindsAccesses : Sought → Disclosures → History → Type 0
+FindsAccesses sought found read =
     (history later : History) → IsPastOf sought.past history → history ≡ read ++ later
     → AreDisclosed sought.inquiry.now.patient (is_inquired sought.inquiry.now) history read found
 
 -- what is searched for knows the past of each history that a state stands for
 abbrev pub KnowsPast : Sought → State → Type 0
-KnowsPast sought state = (history : History) → Represents state history → IsPastOf sought.past history
+KnowsPast sought state =
+    (history : History) → Represents state history → IsPastOf sought.past history

@@ -2,7 +2,7 @@
 ghost use Rattle.std.specs.Prelude.{◌≡◌, ◌++◌, [], ◌∷◌, flat_map, OnOk};
 ghost use Rattle.hippo_model.specs.Terms.{History};
 ghost use Rattle.hippo_history_formats.specs.Accesses.{access_line};
-ghost use Rattle.hippo_history_top.specs.Inquiring.{is_inquired, accesses_shown, HasFound};
+ghost use Rattle.hippo_history_top.specs.Inquiring.{is_inquired, accesses_shown, FindsAccesses};
 
 use crate::asking::Inquiry;
 use crate::gathering::Gather;
@@ -35,17 +35,17 @@ fn add(
     entry: &Entry,
     found: &mut Disclosures,
 ) -> Result<(), Memory>
-    ensures covers { OnOk result ((read : History) → HasFound sought.now found.old read
-        → HasFound sought.now found.new (read ++ entry.now ∷ [])) }
+    ensures covers { OnOk result ((read : History) → FindsAccesses sought.now found.old read
+        → FindsAccesses sought.now found.new (read ++ entry.now ∷ [])) }
 {
     let within = is_inquired(sought.inquiry, entry);
     found.take_in(alloc, &sought.past, entry, within)
 }
 
 impl<'a> Gather<Sought<'a>> for Disclosures {
-    ghost use Rattle.hippo_history_top.specs.Inquiring.{HasFound};
+    ghost use Rattle.hippo_history_top.specs.Inquiring.{FindsAccesses};
 
-    ghost Covers = { λ found sought read. HasFound sought found read };
+    ghost Covers = { λ found sought read. FindsAccesses sought found read };
 
     fn cover(
         &mut self,

@@ -3,7 +3,7 @@ use Rattle.std.proofs.Common.{◌≡◌}
 use Rattle.hippo_history_top.proofs.GatheredLemmas.{gathered_nothing}
 use Rattle.hippo_history_top.proofs.InquiryLemmas.{loaded_patient, found-nothing}
 use Rattle.hippo_history_top.specs.declared.asking.View.TheVariants.{Patient}
-use Rattle.hippo_history_top.specs.Inquiring.{HasFound}
+use Rattle.hippo_history_top.specs.Inquiring.{FindsAccesses}
 use Rattle.hippo_history_top.proofs.top.show_sought.Goals as goal
 
 pub returns-in-Ok : goal.returns-in-Ok
@@ -15,6 +15,6 @@ returns-in-Ok g c = record {
 
 pub returns : goal.returns
 returns g c = record {
-  shows = λ state knows. rw c.ending_of.ensures (gathered_nothing (HasFound c.args.sought.now c.new-found.result) (HasFound c.args.sought.now c.gather_all.new.gathered) state (g.P.Keeper.state c.args.keeper.now) (g.P.Keeper.state c.gather_all.new.keeper) c.args.steps.now c.gather_all.new.steps
+  shows = λ state knows. rw c.ending_of.ensures (gathered_nothing (FindsAccesses c.args.sought.now c.new-found.result) (FindsAccesses c.args.sought.now c.gather_all.new.gathered) state (g.P.Keeper.state c.args.keeper.now) (g.P.Keeper.state c.gather_all.new.keeper) c.args.steps.now c.gather_all.new.steps
       (Patient c.args.sought.now.inquiry.now) (g.K.Sink.written c.args.sink.now) (g.K.Sink.faults c.args.sink.now) c.in-Err.fault c.in-Err.ensures.gathers);
 }
