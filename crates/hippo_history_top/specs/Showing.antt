@@ -117,8 +117,8 @@ abbrev pub entries_told : History → Excerpt → Option Moment → History → 
 entries_told history excerpt clock entries =
     entries_where (is_told history excerpt) (told_as history excerpt.form) clock entries
 
--- what is asked for of a history: an excerpt; or the rules in force, the authorizations in force or
--- the digest after its first entries; or what was disclosed of a patient
+-- what is asked for: an excerpt; the rules, authorizations or digest after the first entries; or
+-- what was disclosed of a patient
 abbrev pub shown_text : View → History → Txt
 shown_text (Entries excerpt) history = entries_told history excerpt None history
 shown_text (Rules page) history =
