@@ -1,4 +1,4 @@
--- What a question saw of a patient's row, as a line of text, of JSON (RFC 8259) or of CSV (RFC 4180).
+-- What a question saw of a patient's row, as a line of text, JSON (RFC 8259) or CSV (RFC 4180).
 use Rattle.std.specs.Prelude.{ℕ, List, [], ◌∷◌, ◌++◌, map, codes, decimal}
 use Rattle.serde_json.specs.Data.{Data, number, unsigned, string, array, object, no_members, member}
 use Rattle.serde_json.specs.View.{items_of}

@@ -26,7 +26,8 @@ fn append_seen<const ROOM: usize>(seen: &SeenCell, out: &mut RoomyTxt<ROOM>) -> 
 {
     out.append(seen.column.as_str())?;
     out.append(" ")?;
-    append_value(&seen.value, out)
+    append_value(&seen.value, out)?;
+    Ok(())
 }
 
 impl<const ROOM: usize> Printed<ROOM> for SeenCell {
