@@ -52,6 +52,6 @@ has_float-seen seen = rw (has_float-value seen.value) refl
 has_float-denied : (denied : DeniedCell) → has_float (denied_data denied) ≡ false
 has_float-denied denied = refl
 
-pub access_has_no_float : (access : Access) → has_float (access_data access) ≡ false
-access_has_no_float access =
+pub access_has_no_float : (access : Access) (moment : Txt) → has_float (access_data access moment) ≡ false
+access_has_no_float access moment =
     rw (has_float-list denied_data has_float-denied access.denied, has_float-list value_data has_float-value access.key, has_float-list seen_data has_float-seen access.shown, has_float-list seen_data has_float-seen access.tested) refl

@@ -1,6 +1,5 @@
 //! An access as a line in each format.
 ghost use Rattle.std.specs.Prelude.{◌≡◌, ◌++◌, OnOk, codes};
-ghost use Rattle.hippo_values_text.specs.Dates.{moment_text};
 ghost use Rattle.hippo_values_text.specs.Printing.{AppendsText};
 ghost use Rattle.hippo_report.specs.Cells.{keyed_text};
 ghost use Rattle.hippo_history_formats.specs.Formats.{json_line, csv_line};
@@ -74,8 +73,7 @@ fn append_titled<T: Printed<0>>(title: &str, members: &[T], out: &mut Txt) -> Re
 
 // Appends the number of the question's entry, its moment, and who asked.
 fn append_asker(access: &Access, moment: &str, out: &mut Txt) -> Result<(), Memory>
-    requires moment { moment.now ≡ moment_text access.now.moment }
-    ensures { OnOk result (out.new ≡ out.old ++ asker_text access.now) }
+    ensures { OnOk result (out.new ≡ out.old ++ asker_text access.now moment.now) }
 {
     out.append(Buffer::new().format(access.entry))?;
     append_word(moment, out)?;
@@ -104,8 +102,7 @@ fn append_cells(access: &Access, out: &mut Txt) -> Result<(), Memory>
 }
 
 fn append_text(access: &Access, moment: &str, out: &mut Txt) -> Result<(), Memory>
-    requires moment { moment.now ≡ moment_text access.now.moment }
-    ensures { OnOk result (out.new ≡ out.old ++ access_text access.now) }
+    ensures { OnOk result (out.new ≡ out.old ++ access_text access.now moment.now) }
 {
     append_asker(access, moment, out)?;
     out.append(" ")?;
@@ -115,16 +112,14 @@ fn append_text(access: &Access, moment: &str, out: &mut Txt) -> Result<(), Memor
 }
 
 fn append_json(alloc: Global, access: &Access, moment: &str, out: &mut Txt) -> Result<(), Memory>
-    requires moment { moment.now ≡ moment_text access.now.moment }
-    ensures { OnOk result (out.new ≡ out.old ++ json_line (access_data access.now)) }
+    ensures { OnOk result (out.new ≡ out.old ++ json_line (access_data access.now moment.now)) }
 {
     let text = access_json(alloc, access, moment)?;
     append_text_line(text.as_str(), out)
 }
 
 fn append_csv(alloc: Global, access: &Access, moment: &str, out: &mut Txt) -> Result<(), Memory>
-    requires moment { moment.now ≡ moment_text access.now.moment }
-    ensures { OnOk result (out.new ≡ out.old ++ csv_line (access_fields access.now)) }
+    ensures { OnOk result (out.new ≡ out.old ++ csv_line (access_fields access.now moment.now)) }
 {
     let fields = access_record(alloc, access, moment)?;
     append_record(alloc, &fields, out)
