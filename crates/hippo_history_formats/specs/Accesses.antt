@@ -1,11 +1,10 @@
 -- What a question saw of a patient's row, as a line of text, JSON (RFC 8259) or CSV (RFC 4180).
-use Rattle.std.specs.Prelude.{ℕ, List, [], ◌∷◌, ◌++◌, map, codes, decimal}
+use Rattle.std.specs.Prelude.{List, [], ◌∷◌, ◌++◌, map, codes, decimal}
 use Rattle.serde_json.specs.Data.{Data, number, unsigned, string, array, object, no_members, member}
 use Rattle.serde_json.specs.View.{items_of}
 use Rattle.hippo_values_text.specs.Dates.{moment_text}
 use Rattle.hippo_values_text.specs.Printing.{value_text}
 use Rattle.hippo_values.specs.Texts.{Txt}
-use Rattle.hippo_values.specs.declared.values.Value.{Value}
 use Rattle.hippo_report.specs.declared.format.Format.{Format}
 use Rattle.hippo_report.specs.declared.format.Format.TheVariants as formats
 use Rattle.hippo_report.specs.Cells.{separated_text, comma, keyed_text}

@@ -172,7 +172,6 @@ fn access_data(
 }
 
 /// Returns an access as an object, without spaces.
-#[tactic(auto, using(crate::proofs::JsonLemmas::access_has_no_float))]
 pub(crate) fn access_json(
     alloc: Global,
     access: &Access,
