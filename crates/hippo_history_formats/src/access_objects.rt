@@ -177,7 +177,8 @@ pub(crate) fn access_json(
     access: &Access,
     moment: &str,
 ) -> Result<String, AllocError>
-    ensures { IfOk result (λ text. string_bytes text ≡ compact_text (access_data access.now moment.now)) }
+    ensures { IfOk result (λ text. string_bytes text
+        ≡ compact_text (access_data access.now moment.now)) }
 {
     let object = access_data(alloc, access, moment)?;
     object.to_string(alloc)
