@@ -1,2 +1,3 @@
 pub mod Formats
 pub mod Shown
+pub mod Accesses

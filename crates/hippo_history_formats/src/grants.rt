@@ -21,8 +21,8 @@ pub struct Grant {
     pub recipient: Name,
 }
 
-// Appends a space and a word.
-fn append_word(word: &str, out: &mut Txt) -> Result<(), Memory>
+/// Appends a space and a word.
+pub(crate) fn append_word(word: &str, out: &mut Txt) -> Result<(), Memory>
     ensures { OnOk result (out.new ≡ out.old ++ (codes " " ++ word.now)) }
 {
     out.append(" ")?;

@@ -46,8 +46,8 @@ pub(crate) fn append_record(
     }
 }
 
-// Adds three fields.
-fn push_three(
+/// Adds three fields.
+pub(crate) fn push_three(
     fields: &mut StringRecord,
     first: &str,
     second: &str,
@@ -61,8 +61,12 @@ fn push_three(
     fields.push_field(third)
 }
 
-// Adds an entry's number and its moment.
-fn push_entry(fields: &mut StringRecord, entry: u64, moment: &str) -> Result<(), AllocError>
+/// Adds an entry's number and its moment.
+pub(crate) fn push_entry(
+    fields: &mut StringRecord,
+    entry: u64,
+    moment: &str,
+) -> Result<(), AllocError>
     ensures { OnOk result (fields_of fields.new
         ≡ fields_of fields.old ++ (decimal entry ∷ moment.now ∷ [])) }
 {

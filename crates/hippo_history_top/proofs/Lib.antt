@@ -13,6 +13,7 @@ mod FrontLemmas
 mod DamageLemmas
 mod GatherLemmas
 mod GatheredLemmas
+mod InquiryLemmas
 mod MomentLemmas
 mod NumberLemmas
 mod GrantLemmas

@@ -12,5 +12,6 @@ pub mod Digesting
 pub mod Gathering
 pub mod Fronts
 pub mod Damage
+pub mod Inquiring
 pub mod Outcomes
 pub mod Calls

@@ -1,6 +1,6 @@
 //! What a store holds, in a form that people can read: its entries, the rules or the authorizations
-//! in force, or a digest of its entries. This crate has the command line, the top function and the
-//! program that calls it.
+//! in force, a digest of its entries, or what was disclosed of a patient. This crate has the command
+//! line, the top function and the program that calls it.
 #![tactic(auto)]
 
 mod arguments;
@@ -8,11 +8,13 @@ mod asking;
 mod bounds;
 mod damage;
 mod digest;
+mod disclosing;
 mod endings;
 mod front;
 mod gathering;
 mod lines;
 mod moments;
+mod patients;
 mod printing;
 mod program;
 mod reading;
@@ -23,7 +25,7 @@ mod stores;
 mod top;
 mod users;
 
-pub use asking::{Acts, Bound, Call, Excerpt, Form, Page, Roster, Scope, View};
+pub use asking::{Acts, Bound, Call, Excerpt, Form, Inquiry, Page, Roster, Scope, View};
 pub use program::History;
 pub use reading::asked_of;
 pub use stores::Stores;

@@ -1,0 +1,6 @@
+pub mod ConditionLemmas
+pub mod RowLemmas
+pub mod UseLemmas
+pub mod SharingLemmas
+pub mod SearchLemmas
+pub mod DisclosingLemmas

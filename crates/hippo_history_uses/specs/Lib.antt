@@ -1,0 +1,9 @@
+pub mod Uses
+pub mod Cells
+pub mod Accesses
+pub mod Asking
+pub mod Using
+pub mod Conditions
+pub mod Lending
+pub mod Searching
+pub mod Disclosing
