@@ -155,10 +155,10 @@ module _ (past : Past) (entry : Entry) (history read later : History) (comes : C
   pub meant_then : (query : Query) → meaning_in past.catalog.now.names text ≡ Some query → (other : Txt) → text_asked entry.act ≡ Some other → meaning (before_entry entry history) other ≡ Some query
   meant_then query means other other_is =
       let same : text ≡ other = same_Some text other (sym is ∙ other_is) in
-      ap (meaning (before_entry entry history)) (sym same) ∙ found.1.0 ∙ sym found.1.1 ∙ sym now_is ∙ means
+      ap (meaning (before_entry entry history)) (sym same) ∙ found.1 ∙ sym found.2 ∙ sym now_is ∙ means
 
   pub means_something : meaning_in past.catalog.now.names text ≡ None → ⊥
-  means_something none = none-some found.0 (sym none ∙ now_is ∙ found.1.1)
+  means_something none = none-some found.0 (sym none ∙ now_is ∙ found.2)
 
 -- ---- the calls
 -- an entry that is no logged query adds nothing

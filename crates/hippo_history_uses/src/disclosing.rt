@@ -37,9 +37,9 @@ fn asked_then<'a>(
     past: &Past<'a>,
     entry: &'a Entry,
     query: &'a Query,
-    patient: i64,
+    patient: &i64,
 ) -> Option<AskedThen<'a>>
-    ensures { IsAskedBy past.now entry.now query.now patient result }
+    ensures { IsAskedBy past.now entry.now query.now patient.now result }
 {
     match &entry.act {
         Act::Asked {
@@ -56,7 +56,7 @@ fn asked_then<'a>(
             purpose,
             recipient,
             query,
-            patient,
+            patient: *patient,
         }),
         _ => None,
     }
@@ -97,7 +97,7 @@ impl Disclosures {
     ) -> Result<(), Memory>
         ensures { OnOk result (DisclosesMeant past.now entry.now query.now self.old self.new) }
     {
-        let Some(asked) = asked_then(past, entry, query, self.patient) else {
+        let Some(asked) = asked_then(past, entry, query, &self.patient) else {
             return Ok(());
         };
         order_for(&mut self.tables, alloc, query, &self.patient)?;
