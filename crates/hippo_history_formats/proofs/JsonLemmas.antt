@@ -1,8 +1,7 @@
--- The shown objects have no floating-point numbers.
-use Rattle.std.proofs.Common.{◌≡◌, refl, Bool, false, ℕ, List, [], ◌∷◌, map, pos, negsuc, Option, Some, None, option_map}
+-- The shown objects have no floating-point numbers, so the text that is written of them is compact.
+use Rattle.std.proofs.Common.{◌≡◌, refl, Bool, false, ℕ, List, [], ◌∷◌, pos, negsuc, Option, Some, None, option_map, Result, Ok, Err, IfOk, ap, ◌∙◌}
 use Rattle.serde_json.specs.Data.{Data}
-use Rattle.serde_json.specs.View.{items_of}
-use Rattle.serde_json.specs.Written.{has_float, items_have_float}
+use Rattle.serde_json.specs.Written.{compact_text, has_float}
 use Rattle.hippo_values.specs.Texts.{Txt}
 use Rattle.hippo_values.specs.declared.names.Name.{Name}
 use Rattle.hippo_values.specs.declared.values.Value.{Value}
@@ -41,10 +40,10 @@ has_float-value (values.Int (negsuc n)) = refl
 has_float-value (values.Text text) = refl
 has_float-value (values.Day day) = refl
 
-has_float-list : {A : Type 0} (data : A → Data) → ((member : A) → has_float (data member) ≡ false)
-    → (members : List A) → has_float (list_data data members) ≡ false
-has_float-list data none [] = refl
-has_float-list data none (first ∷ rest) = rw (none first, has_float-list data none rest) refl
+has_float-list : {A : Type 0} (form : A → Data) → ((member : A) → has_float (form member) ≡ false)
+    → (members : List A) → has_float (list_data form members) ≡ false
+has_float-list form none [] = refl
+has_float-list form none (first ∷ rest) = rw (none first, has_float-list form none rest) refl
 
 has_float-seen : (seen : SeenCell) → has_float (seen_data seen) ≡ false
 has_float-seen seen = rw (has_float-value seen.value) refl
@@ -52,6 +51,12 @@ has_float-seen seen = rw (has_float-value seen.value) refl
 has_float-denied : (denied : DeniedCell) → has_float (denied_data denied) ≡ false
 has_float-denied denied = refl
 
-pub access_has_no_float : (access : Access) → has_float (access_data access) ≡ false
-access_has_no_float access =
+access_has_no_float : (access : Access) (moment : Txt) → has_float (access_data access moment) ≡ false
+access_has_no_float access moment =
     rw (has_float-list denied_data has_float-denied access.denied, has_float-list value_data has_float-value access.key, has_float-list seen_data has_float-seen access.shown, has_float-list seen_data has_float-seen access.tested) refl
+
+-- the text that is written of an object without such numbers is its compact text
+pub access_written : {A E : Type 0} (access : Access) (moment : Txt) (made : Data) (bytes : A → Txt) (written : Result A E) → made ≡ access_data access moment
+    → IfOk written (λ text. has_float made ≡ false → bytes text ≡ compact_text made) → IfOk written (λ text. bytes text ≡ compact_text (access_data access moment))
+access_written access moment made bytes (Ok text) is so = so (ap has_float is ∙ access_has_no_float access moment) ∙ ap compact_text is
+access_written access moment made bytes (Err error) is so = tt

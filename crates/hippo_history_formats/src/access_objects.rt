@@ -3,7 +3,7 @@ ghost use Rattle.std.specs.Prelude.{◌≡◌, map, IfOk, OnOk, string_bytes, co
 ghost use Rattle.serde_json.specs.Data.{put, string, number, unsigned};
 ghost use Rattle.serde_json.specs.View.{view, members_view};
 ghost use Rattle.serde_json.specs.Written.{compact_text};
-ghost use Rattle.hippo_values_text.specs.Dates.{day_text, moment_text};
+ghost use Rattle.hippo_values_text.specs.Dates.{day_text};
 ghost use Rattle.hippo_report_flags.specs.Flags.{value_data};
 ghost use Rattle.hippo_history_formats.specs.Accesses.{seen_data, denied_data, list_data, access_data};
 
@@ -163,8 +163,7 @@ fn access_data(
     access: &Access,
     moment: &str,
 ) -> Result<serde_json::Value, AllocError>
-    requires moment { moment.now ≡ moment_text access.now.moment }
-    ensures { IfOk result (λ made. view made ≡ access_data access.now) }
+    ensures { IfOk result (λ made. view made ≡ access_data access.now moment.now) }
 {
     let mut members = Map::new(alloc);
     put_asker(alloc, &mut members, access, moment)?;
@@ -173,14 +172,13 @@ fn access_data(
 }
 
 /// Returns an access as an object, without spaces.
-#[tactic(auto, using(crate::proofs::JsonLemmas::access_has_no_float))]
 pub(crate) fn access_json(
     alloc: Global,
     access: &Access,
     moment: &str,
 ) -> Result<String, AllocError>
-    requires moment { moment.now ≡ moment_text access.now.moment }
-    ensures { IfOk result (λ text. string_bytes text ≡ compact_text (access_data access.now)) }
+    ensures { IfOk result (λ text. string_bytes text
+        ≡ compact_text (access_data access.now moment.now)) }
 {
     let object = access_data(alloc, access, moment)?;
     object.to_string(alloc)

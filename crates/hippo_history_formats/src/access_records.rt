@@ -1,7 +1,6 @@
 //! An access as a CSV record (RFC 4180).
 ghost use Rattle.std.specs.Prelude.{◌≡◌, ◌∷◌, ◌++◌, [], decimal, IfOk, OnOk};
 ghost use Rattle.csv.specs.Records.{fields_of};
-ghost use Rattle.hippo_values_text.specs.Dates.{moment_text};
 ghost use Rattle.hippo_values_text.specs.Printing.{value_text};
 ghost use Rattle.hippo_history_formats.specs.Accesses.{seen_text, denied_text, listed_text, access_fields};
 
@@ -70,8 +69,7 @@ pub(crate) fn access_record(
     access: &Access,
     moment: &str,
 ) -> Result<StringRecord, Memory>
-    requires moment { moment.now ≡ moment_text access.now.moment }
-    ensures { IfOk result (λ made. fields_of made ≡ access_fields access.now) }
+    ensures { IfOk result (λ made. fields_of made ≡ access_fields access.now moment.now) }
 {
     let mut fields = StringRecord::new(alloc);
     push_asker(&mut fields, access, moment)?;

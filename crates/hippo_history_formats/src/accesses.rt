@@ -1,6 +1,5 @@
 //! An access as a line in each format.
 ghost use Rattle.std.specs.Prelude.{◌≡◌, ◌++◌, OnOk, codes};
-ghost use Rattle.hippo_values_text.specs.Dates.{moment_text};
 ghost use Rattle.hippo_values_text.specs.Printing.{AppendsText};
 ghost use Rattle.hippo_report.specs.Cells.{keyed_text};
 ghost use Rattle.hippo_history_formats.specs.Formats.{json_line, csv_line};
@@ -21,15 +20,13 @@ use std::alloc::Global;
 
 const HEADER: &str = "entry,moment,user,purpose,recipient,table,key,shown,tested,denied\n";
 
-fn append_seen<const ROOM: usize>(
-    seen: &SeenCell,
-    out: &mut RoomyTxt<ROOM>,
-) -> Result<(), Memory>
+fn append_seen<const ROOM: usize>(seen: &SeenCell, out: &mut RoomyTxt<ROOM>) -> Result<(), Memory>
     ensures adds { AppendsText (seen_text seen.now) result out.old out.new }
 {
     out.append(seen.column.as_str())?;
     out.append(" ")?;
-    append_value(&seen.value, out)
+    append_value(&seen.value, out)?;
+    Ok(())
 }
 
 impl<const ROOM: usize> Printed<ROOM> for SeenCell {
@@ -76,8 +73,7 @@ fn append_titled<T: Printed<0>>(title: &str, members: &[T], out: &mut Txt) -> Re
 
 // Appends the number of the question's entry, its moment, and who asked.
 fn append_asker(access: &Access, moment: &str, out: &mut Txt) -> Result<(), Memory>
-    requires moment { moment.now ≡ moment_text access.now.moment }
-    ensures { OnOk result (out.new ≡ out.old ++ asker_text access.now) }
+    ensures { OnOk result (out.new ≡ out.old ++ asker_text access.now moment.now) }
 {
     out.append(Buffer::new().format(access.entry))?;
     append_word(moment, out)?;
@@ -106,8 +102,7 @@ fn append_cells(access: &Access, out: &mut Txt) -> Result<(), Memory>
 }
 
 fn append_text(access: &Access, moment: &str, out: &mut Txt) -> Result<(), Memory>
-    requires moment { moment.now ≡ moment_text access.now.moment }
-    ensures { OnOk result (out.new ≡ out.old ++ access_text access.now) }
+    ensures { OnOk result (out.new ≡ out.old ++ access_text access.now moment.now) }
 {
     append_asker(access, moment, out)?;
     out.append(" ")?;
@@ -116,22 +111,15 @@ fn append_text(access: &Access, moment: &str, out: &mut Txt) -> Result<(), Memor
     out.append("\n")
 }
 
-fn append_json(
-    alloc: Global,
-    access: &Access,
-    moment: &str,
-    out: &mut Txt,
-) -> Result<(), Memory>
-    requires moment { moment.now ≡ moment_text access.now.moment }
-    ensures { OnOk result (out.new ≡ out.old ++ json_line (access_data access.now)) }
+fn append_json(alloc: Global, access: &Access, moment: &str, out: &mut Txt) -> Result<(), Memory>
+    ensures { OnOk result (out.new ≡ out.old ++ json_line (access_data access.now moment.now)) }
 {
     let text = access_json(alloc, access, moment)?;
     append_text_line(text.as_str(), out)
 }
 
 fn append_csv(alloc: Global, access: &Access, moment: &str, out: &mut Txt) -> Result<(), Memory>
-    requires moment { moment.now ≡ moment_text access.now.moment }
-    ensures { OnOk result (out.new ≡ out.old ++ csv_line (access_fields access.now)) }
+    ensures { OnOk result (out.new ≡ out.old ++ csv_line (access_fields access.now moment.now)) }
 {
     let fields = access_record(alloc, access, moment)?;
     append_record(alloc, &fields, out)

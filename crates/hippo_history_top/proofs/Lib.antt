@@ -11,6 +11,7 @@ mod PageLemmas
 mod DigestLemmas
 mod GatherLemmas
 mod GatheredLemmas
+mod InquiryLemmas
 mod MomentLemmas
 mod NumberLemmas
 mod GrantLemmas

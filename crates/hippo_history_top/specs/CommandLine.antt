@@ -1,11 +1,12 @@
 -- The command line: which words the program takes, and what they ask for.
-use Rattle.std.specs.Prelude.{ℕ, Bool, true, false, not, ◌&&◌, ◌||◌, List, [], ◌∷◌, Option, Some, None, is_some, option_map, option_and_then, unwrap_or, if◌then◌else◌, codes, bytes_eq}
+use Rattle.std.specs.Prelude.{ℕ, ℤ, Bool, true, false, not, ◌&&◌, ◌||◌, List, [], ◌∷◌, Option, Some, None, is_some, option_map, option_and_then, unwrap_or, if◌then◌else◌, codes, bytes_eq}
 use Rattle.std.specs.Bool.{then_some}
 use Rattle.std.specs.Option.{option_or, option_map_or}
-use Rattle.std.specs.Str.Parse.{digits_value, without_leading_plus}
-use Rattle.clap.specs.ValueTests.{is_unsigned_in}
+use Rattle.std.specs.Str.Parse.{digits_value, signed_digits_value, without_leading_plus}
+use Rattle.clap.specs.ValueTests.{is_signed_in, is_unsigned_in}
 use Rattle.clap.specs.Words.{App, Row, first_of, matches_of}
 use Rattle.hippo_values.specs.Texts.{Txt}
+use Rattle.hippo_values.specs.Moments.{signed_numbers}
 use Rattle.hippo_values.specs.Names.{name_of}
 use Rattle.hippo_stmt_lines.specs.Moments.{moment_in}
 use Rattle.hippo_report.specs.declared.format.Format.{Format}
@@ -22,7 +23,7 @@ use Rattle.hippo_history_top.specs.declared.asking.Form.TheVariants.{Listing, Sc
 use Rattle.hippo_history_top.specs.declared.asking.Scope.{Scope}
 use Rattle.hippo_history_top.specs.declared.asking.Scope.TheVariants.{Whole, Table}
 use Rattle.hippo_history_top.specs.declared.asking.View.{View}
-use Rattle.hippo_history_top.specs.declared.asking.View.TheVariants.{Entries, Rules, Users, Digest}
+use Rattle.hippo_history_top.specs.declared.asking.View.TheVariants.{Entries, Rules, Users, Digest, Patient}
 
 -- the command, as clap is given it
 abbrev pub showing_command_line : App
@@ -30,7 +31,8 @@ showing_command_line = command_with (codes "hippo_history")
     (needed_option (codes "store") ∷ entry_option (codes "entry") ∷ text_option (codes "from")
     ∷ text_option (codes "to") ∷ text_option (codes "at") ∷ text_option (codes "table")
     ∷ flag (codes "tables") ∷ flag (codes "script") ∷ flag (codes "rules")
-    ∷ flag (codes "users") ∷ flag (codes "digest") ∷ text_option (codes "format") ∷ [])
+    ∷ flag (codes "users") ∷ flag (codes "digest") ∷ text_option (codes "patient")
+    ∷ text_option (codes "format") ∷ [])
 
 -- whether a flag, a name without a value, is given
 abbrev pub is_on : Txt → List Row → Bool
@@ -101,9 +103,20 @@ digest_fits rows =
     not (is_on (codes "digest") rows
     && (has_selection rows || has_form rows || is_page rows))
 
+-- what was disclosed of a patient is asked for over a range; it cannot be combined with anything
+-- else
+abbrev pub has_other_view : List Row → Bool
+has_other_view rows =
+    is_some (first_of (codes "entry") rows) || is_some (first_of (codes "table") rows)
+    || has_form rows || is_page rows || is_on (codes "digest") rows
+
+abbrev pub patient_fits : List Row → Bool
+patient_fits rows = not (is_some (first_of (codes "patient") rows) && has_other_view rows)
+
 abbrev pub options_fit : List Row → Bool
 options_fit rows =
     entry_fits rows && page_fits rows && users_fit rows && bound_fits rows && digest_fits rows
+    && patient_fits rows
 
 -- the table whose entries or rules are shown; `None` if the word is not a name
 abbrev pub scope_of : Option Txt → Option Scope
@@ -151,12 +164,35 @@ roster_to format last = Users (record { last = last; format = format })
 abbrev pub number_given : Txt → List Row → Option ℕ
 number_given name rows = option_map_or entry_number (first_of name rows) (Some 4000000)
 
-abbrev pub view_in : List Row → Format → Scope → Option View
-view_in rows format scope =
+-- the number of a patient that a word writes
+abbrev pub patient_number : Txt → Option ℤ
+patient_number word =
+    then_some (is_signed_in signed_numbers.0 signed_numbers.1 word) (signed_digits_value 10 word)
+
+abbrev pub inquiry_for : Format → Bound → Bound → ℤ → View
+inquiry_for format first last patient =
+    Patient (record { patient = patient; first = first; last = last; format = format })
+
+-- what was disclosed of the patient with the number in a word
+abbrev pub inquiry_view : List Row → Format → Txt → Option View
+inquiry_view rows format word =
+    option_and_then
+    (λ first. option_and_then
+    (λ last. option_map (inquiry_for format first last) (patient_number word)) (last_in rows))
+    (first_in rows)
+
+-- the rules, the authorizations, the digest or the entries
+abbrev pub listing_in : List Row → Format → Scope → Option View
+listing_in rows format scope =
     if is_on (codes "rules") rows then option_map (page_to format scope) (page_end rows)
     else if is_on (codes "users") rows then option_map (roster_to format) (page_end rows)
     else if is_on (codes "digest") rows then option_map Digest (number_given (codes "to") rows)
     else excerpt_view rows format scope
+
+abbrev pub view_in : List Row → Format → Scope → Option View
+view_in rows format scope =
+    option_map_or (inquiry_view rows format) (first_of (codes "patient") rows)
+    (listing_in rows format scope)
 
 abbrev pub call_with : List Row → View → Call
 call_with rows view =

@@ -10,5 +10,6 @@ pub mod ByNames
 pub mod Progress
 pub mod Digesting
 pub mod Gathering
+pub mod Inquiring
 pub mod Outcomes
 pub mod Calls

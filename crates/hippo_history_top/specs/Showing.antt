@@ -25,12 +25,13 @@ use Rattle.hippo_history_top.specs.declared.asking.Form.TheVariants.{Listing, Sc
 use Rattle.hippo_history_top.specs.declared.asking.Scope.{Scope}
 use Rattle.hippo_history_top.specs.declared.asking.Scope.TheVariants.{Whole, Table}
 use Rattle.hippo_history_top.specs.declared.asking.View.{View}
-use Rattle.hippo_history_top.specs.declared.asking.View.TheVariants.{Entries, Rules, Users, Digest}
+use Rattle.hippo_history_top.specs.declared.asking.View.TheVariants.{Entries, Rules, Users, Digest, Patient}
 use Rattle.hippo_history_formats.specs.Formats.{entry_by}
 use Rattle.hippo_history_top.specs.Dating.{is_from, is_to, entries_to, moments_of, dated_line}
 use Rattle.hippo_history_top.specs.Granting.{grants_of, grants_shown}
 use Rattle.hippo_history_top.specs.Ruling.{rules_shown}
 use Rattle.hippo_history_top.specs.Digests.{digest_shown}
+use Rattle.hippo_history_top.specs.Inquiring.{accesses_asked, accesses_shown}
 
 -- whether a text is a question that names this table in FROM
 abbrev pub is_question_of : KnownNames → Name → Txt → Bool
@@ -116,8 +117,8 @@ abbrev pub entries_told : History → Excerpt → Option Moment → History → 
 entries_told history excerpt clock entries =
     entries_where (is_told history excerpt) (told_as history excerpt.form) clock entries
 
--- what is asked for of a history: an excerpt, or the rules in force, the authorizations in force or
--- the digest after its first entries
+-- what is asked for: an excerpt; the rules, authorizations or digest after the first entries; or
+-- what was disclosed of a patient
 abbrev pub shown_text : View → History → Txt
 shown_text (Entries excerpt) history = entries_told history excerpt None history
 shown_text (Rules page) history =
@@ -125,3 +126,5 @@ shown_text (Rules page) history =
 shown_text (Users roster) history =
     grants_shown roster.format (grants_of (entries_to roster.last history))
 shown_text (Digest last) history = digest_shown (take last history)
+shown_text (Patient inquiry) history =
+    accesses_shown inquiry.format (accesses_asked inquiry history)

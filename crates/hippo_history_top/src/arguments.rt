@@ -7,7 +7,7 @@ use clap::ArgMatches;
 use hippo_program_args::{Argument, text_of};
 
 /// The arguments that the command takes.
-pub(crate) const ARGUMENTS: [Argument<'static>; 12] = [
+pub(crate) const ARGUMENTS: [Argument<'static>; 13] = [
     Argument::Needed("store"),
     Argument::Entry("entry"),
     Argument::Text("from"),
@@ -19,6 +19,7 @@ pub(crate) const ARGUMENTS: [Argument<'static>; 12] = [
     Argument::Flag("rules"),
     Argument::Flag("users"),
     Argument::Flag("digest"),
+    Argument::Text("patient"),
     Argument::Text("format"),
 ];
 

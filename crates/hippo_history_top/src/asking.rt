@@ -65,6 +65,17 @@ pub struct Roster {
     pub format: Format,
 }
 
+/// What was disclosed of a patient by the questions of a stretch of entries, and how it is shown.
+#[derive(Drop)]
+pub struct Inquiry {
+    /// The patient's number.
+    pub patient: i64,
+    /// Where the stretch of entries begins; `last` is where it ends. Both ends belong to it.
+    pub first: Bound,
+    pub last: Bound,
+    pub format: Format,
+}
+
 /// What is shown of a history.
 #[derive(Drop)]
 pub enum View {
@@ -75,6 +86,8 @@ pub enum View {
     Users(Roster),
     /// The digest of the entries up to this number.
     Digest(u64),
+    /// What was disclosed of a patient.
+    Patient(Inquiry),
 }
 
 /// The name of a store, and what is shown of its history.

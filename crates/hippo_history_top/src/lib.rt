@@ -1,16 +1,18 @@
 //! What a store holds, in a form that people can read: its entries, the rules or the authorizations
-//! in force, or a digest of its entries. This crate has the command line, the top function and the
-//! program that calls it.
+//! in force, a digest of its entries, or what was disclosed of a patient. This crate has the command
+//! line, the top function and the program that calls it.
 #![tactic(auto)]
 
 mod arguments;
 mod asking;
 mod bounds;
 mod digest;
+mod disclosing;
 mod endings;
 mod gathering;
 mod lines;
 mod moments;
+mod patients;
 mod printing;
 mod program;
 mod reading;
@@ -21,7 +23,7 @@ mod stores;
 mod top;
 mod users;
 
-pub use asking::{Acts, Bound, Call, Excerpt, Form, Page, Roster, Scope, View};
+pub use asking::{Acts, Bound, Call, Excerpt, Form, Inquiry, Page, Roster, Scope, View};
 pub use program::History;
 pub use reading::asked_of;
 pub use stores::Stores;

@@ -41,7 +41,7 @@ impl Moments {
     }
 }
 
-impl Gather for Moments {
+impl Gather<Bound> for Moments {
     ghost Covers = { λ gathered last read. gathered.list ≡ moments_of read };
 
     fn cover(&mut self, _alloc: Global, _last: &Bound, entry: &Entry) -> Result<(), Memory> {

@@ -3,11 +3,12 @@ ghost use Rattle.std.specs.Prelude.{◌≡◌, ◌||◌, not, codes, map, is_som
 ghost use Rattle.clap.specs.Words.{first_of, rows_of, found_of};
 ghost use Rattle.hippo_program_args.specs.Arguments.{FindsMatches};
 ghost use Rattle.hippo_history_top.specs.declared.asking.View.TheVariants.{Digest};
-ghost use Rattle.hippo_history_top.specs.CommandLine.{showing_command_line, is_on, has_end, entry_fits, has_form, is_page, page_fits, users_fit, bound_fits, has_selection, digest_fits, options_fit, scope_of, is_text_format, format_fits, shown_form, acts_in, excerpt_view, page_end, page_to, roster_to, number_given, view_in, call_with, call_in_format, showing_call, asked_of};
+ghost use Rattle.hippo_history_top.specs.CommandLine.{showing_command_line, is_on, has_end, entry_fits, has_form, is_page, page_fits, users_fit, bound_fits, has_selection, digest_fits, has_other_view, patient_fits, options_fit, scope_of, is_text_format, format_fits, shown_form, acts_in, excerpt_view, page_end, page_to, roster_to, number_given, inquiry_view, listing_in, view_in, call_with, call_in_format, showing_call, asked_of};
 
 use crate::arguments::{ARGUMENTS, is_on};
-use crate::asking::{Acts, Call, Excerpt, Form, Page, Roster, Scope, View};
+use crate::asking::{Acts, Call, Excerpt, Form, Inquiry, Page, Roster, Scope, View};
 use crate::bounds::{first_in, last_in, number_given, page_end};
+use crate::patients::patient_number;
 use clap::ArgMatches;
 use hippo_program_args::{format_of, matches_in, text_of, texts_of};
 use hippo_report::Format;
@@ -113,6 +114,22 @@ fn digest_fits(matches: &ArgMatches<'_>) -> bool
     !(is_on(matches, "digest") && is_of_no_digest(matches))
 }
 
+fn has_other_view(matches: &ArgMatches<'_>) -> bool
+    ensures { result ≡ has_other_view (rows_of (found_of matches.now)) }
+{
+    is_there(matches, "entry")
+        || is_there(matches, "table")
+        || has_form(matches)
+        || is_page(matches)
+        || is_on(matches, "digest")
+}
+
+fn patient_fits(matches: &ArgMatches<'_>) -> bool
+    ensures { result ≡ patient_fits (rows_of (found_of matches.now)) }
+{
+    !(is_there(matches, "patient") && has_other_view(matches))
+}
+
 fn fits(matches: &ArgMatches<'_>) -> bool
     ensures { result ≡ options_fit (rows_of (found_of matches.now)) }
 {
@@ -121,6 +138,7 @@ fn fits(matches: &ArgMatches<'_>) -> bool
         && users_fit(matches)
         && bound_fits(matches)
         && digest_fits(matches)
+        && patient_fits(matches)
 }
 
 fn scope_of(alloc: Global, matches: &ArgMatches<'_>) -> Result<Option<Scope>, Memory>
@@ -207,8 +225,22 @@ fn digest_of(matches: &ArgMatches<'_>) -> Option<View>
     Some(View::Digest(number_given(matches, "to")?))
 }
 
-fn view_of(matches: &ArgMatches<'_>, format: Format, scope: Scope) -> Option<View>
-    ensures { result ≡ view_in (rows_of (found_of matches.now)) format scope }
+fn inquiry_of(matches: &ArgMatches<'_>, format: Format, word: &str) -> Option<View>
+    ensures { result ≡ inquiry_view (rows_of (found_of matches.now)) format word.now }
+{
+    let first = first_in(matches)?;
+    let last = last_in(matches)?;
+    let patient = patient_number(word)?;
+    Some(View::Patient(Inquiry {
+        patient,
+        first,
+        last,
+        format,
+    }))
+}
+
+fn listing_of(matches: &ArgMatches<'_>, format: Format, scope: Scope) -> Option<View>
+    ensures { result ≡ listing_in (rows_of (found_of matches.now)) format scope }
 {
     if is_on(matches, "rules") {
         page_of(matches, format, scope)
@@ -218,6 +250,15 @@ fn view_of(matches: &ArgMatches<'_>, format: Format, scope: Scope) -> Option<Vie
         digest_of(matches)
     } else {
         excerpt_of(matches, format, scope)
+    }
+}
+
+fn view_of(matches: &ArgMatches<'_>, format: Format, scope: Scope) -> Option<View>
+    ensures { result ≡ view_in (rows_of (found_of matches.now)) format scope }
+{
+    match text_of(matches, "patient") {
+        None => listing_of(matches, format, scope),
+        Some(word) => inquiry_of(matches, format, word),
     }
 }
 
@@ -287,7 +328,9 @@ fn asked_in(alloc: Global, words: &[&str]) -> Result<Option<Call>, Memory>
 /// - `--users` is given with `--rules` or `--table`;
 /// - `--at` is given without `--rules` and `--users`, or with `--entry`;
 /// - `--script` is given with another format than text;
-/// - `--digest` is given with anything but `--store` and `--to`, which is then a number.
+/// - `--digest` is given with anything but `--store` and `--to`, which is then a number;
+/// - `--patient` is given with anything but `--store`, `--from`, `--to` and `--format`, or the word
+///   after it is not a number of 64 bits.
 ///
 /// ```text
 /// --store clinic.db --entry 18
@@ -302,6 +345,8 @@ fn asked_in(alloc: Global, words: &[&str]) -> Result<Option<Call>, Memory>
 /// --store clinic.db --rules --format csv
 /// --store clinic.db --digest
 /// --store clinic.db --digest --to 17
+/// --store clinic.db --patient 2
+/// --store clinic.db --patient=-5 --from 2024-03-04T00:00:00Z --format csv
 /// ```
 pub fn asked_of(alloc: Global, words: &[Txt]) -> Result<Option<Call>, Memory>
     ensures { IfOk result (λ call. call ≡ asked_of words.now) }

@@ -61,7 +61,7 @@ fn is_within(alloc: Global, catalog: &Catalog, scope: &Scope, act: &Act) -> Resu
     }
 }
 
-fn is_from(bound: Bound, entry: &Entry) -> bool
+pub(crate) fn is_from(bound: Bound, entry: &Entry) -> bool
     ensures { result ≡ is_from bound entry.now }
 {
     match bound {

@@ -9,9 +9,10 @@ ghost use Rattle.hippo_keeper.specs.Telling.{TellsOnceStarted};
 ghost use Rattle.hippo_policy.specs.Books.{BookRepresents};
 ghost use Rattle.hippo_program_args.specs.Starting.{IsIdle, SaysDamaged, BeginsDamaged};
 ghost use Rattle.hippo_replay.specs.declared.state.State.{State as LoadedState};
-ghost use Rattle.hippo_history_top.specs.declared.asking.View.TheVariants.{Rules as RulesView, Users as UsersView};
+ghost use Rattle.hippo_history_top.specs.declared.asking.View.TheVariants.{Rules as RulesView, Users as UsersView, Patient as PatientView};
 ghost use Rattle.hippo_history_top.specs.Dating.{count_to, dated_line};
 ghost use Rattle.hippo_history_top.specs.Granting.{grants_shown};
+ghost use Rattle.hippo_history_top.specs.Inquiring.{accesses_shown, KnowsPast};
 ghost use Rattle.hippo_history_top.specs.Ruling.{rules_by_names};
 ghost use Rattle.hippo_history_top.specs.Progress.{IsReadable, WritesPage, ShowsLoaded};
 ghost use Rattle.hippo_history_top.specs.declared.asking.Call.{Call as AskedCall};
@@ -21,7 +22,8 @@ ghost use Rattle.hippo_history_top.specs.Endings.{showing_statuses, ends_showing
 ghost use Rattle.hippo_history_top.specs.Outcomes.{ShowsView, BeginsView, Ends};
 ghost use Rattle.hippo_history_top.specs.Saying.{showing_usage, missing_line, Writes, CountsWrites};
 
-use crate::asking::{Page, Roster, View};
+use crate::asking::{Inquiry, Page, Roster, View};
+use crate::disclosing::{Sought, append_accesses};
 use crate::digest::show_digest;
 use crate::endings::{ending_of, served_or};
 use crate::gathering::gather_all;
@@ -32,7 +34,9 @@ use crate::rules::append_rules;
 use crate::showing::{Guide, show_all};
 use crate::stores::Stores;
 use crate::users::{Grants, append_grants};
-use hippo_history_formats::Grant;
+use hippo_audit_job::Past;
+use hippo_history_formats::{Access, Grant};
+use hippo_history_uses::Disclosures;
 use hippo_io::Sink;
 use hippo_keeper::{CountedKeeper, Steps};
 use hippo_program_args::{Ending, stop};
@@ -135,6 +139,70 @@ fn show_users<K: Sink, P: CountedKeeper<L>, L: Ledger>(
     }
 }
 
+// Writes what was disclosed of a patient.
+fn write_accesses<K: Sink>(
+    alloc: Global,
+    format: Format,
+    accesses: &[Access],
+    sink: &mut K,
+) -> Option<Ending>
+    ensures writes { Writes (accesses_shown format accesses.now) result
+        (K.written sink.old) (K.written sink.new) (K.faults sink.old) (K.faults sink.new) }
+{
+    let mut lines = Txt::new(alloc);
+    match append_accesses(alloc, format, accesses, &mut lines) {
+        Ok(()) => write_lines(sink, lines.as_str()),
+        Err(Memory) => Some(Ending::NoMemory),
+    }
+}
+
+// Shows what was disclosed of a patient. What is known of the history is in `sought`.
+fn show_sought<K: Sink, P: CountedKeeper<L>, L: Ledger>(
+    alloc: Global,
+    sought: &Sought<'_>,
+    sink: &mut K,
+    keeper: &mut P,
+    steps: &mut Steps<L>,
+) -> Ending
+    requires readable { IsReadable (P.state keeper.old) }
+    ensures shows { (state : LoadedState) → KnowsPast sought.now state
+        → ShowsLoaded state (PatientView sought.now.inquiry.now) result
+        (P.state keeper.old) (P.state keeper.new) (K.written sink.old) (K.written sink.new)
+        (K.faults sink.old) (K.faults sink.new) steps.old steps.new }
+{
+    let inquiry = sought.inquiry;
+    let mut found = Disclosures::new(alloc, inquiry.patient);
+    match gather_all(alloc, sought, &mut found, keeper, steps) {
+        Ok(()) => served_or(write_accesses(alloc, inquiry.format, found.accesses(), sink)),
+        Err(fault) => ending_of(fault),
+    }
+}
+
+// Shows what was disclosed of a patient, in the history that a state stands for.
+fn show_patient<K: Sink, P: CountedKeeper<L>, L: Ledger>(
+    alloc: Global,
+    inquiry: &Inquiry,
+    state: &State,
+    sink: &mut K,
+    keeper: &mut P,
+    steps: &mut Steps<L>,
+) -> Ending
+    requires readable { IsReadable (P.state keeper.old) }
+    ensures shows { ShowsLoaded state.now (PatientView inquiry.now) result
+        (P.state keeper.old) (P.state keeper.new) (K.written sink.old) (K.written sink.new)
+        (K.faults sink.old) (K.faults sink.new) steps.old steps.new }
+{
+    let sought = Sought {
+        past: Past {
+            catalog: &state.catalog,
+            book: &state.book,
+            count: state.count,
+        },
+        inquiry,
+    };
+    show_sought(alloc, &sought, sink, keeper, steps)
+}
+
 // Shows what is asked for of the history that a state stands for, and drops the state.
 fn show_view<K: Sink, P: CountedKeeper<L>, L: Ledger>(
     alloc: Global,
@@ -168,6 +236,11 @@ fn show_view<K: Sink, P: CountedKeeper<L>, L: Ledger>(
         View::Digest(last) => {
             state.close();
             show_digest(alloc, *last, sink, keeper, steps)
+        }
+        View::Patient(inquiry) => {
+            let ending = show_patient(alloc, inquiry, &state, sink, keeper, steps);
+            state.close();
+            ending
         }
     }
 }
@@ -220,8 +293,8 @@ fn show<K: Sink, P: CountedKeeper<L>, L: Ledger>(
 /// Once the keeper has started, the stored entries stay as they were found. They are read in
 /// pieces. The first read loads the history, so that damage is reported before anything else is
 /// written. A second read shows the entries or computes their digest. For the rules in force it finds
-/// the moments of their entries, and for the authorizations in force the entries that gave them; both
-/// are put together in memory and then written.
+/// the moments of their entries, for the authorizations in force the entries that gave them, and for
+/// a patient what was disclosed; these are put together in memory and then written.
 pub fn history_top<D: Stores, K: Sink, P: CountedKeeper<L>, L: Ledger>(
     alloc: Global,
     words: &[Txt],

@@ -176,7 +176,7 @@ impl Grants {
     }
 }
 
-impl Gather for Grants {
+impl Gather<Bound> for Grants {
     ghost Covers = { λ gathered last read. gathered.list.items
         ≡ grants_of (entries_to last read) };
 

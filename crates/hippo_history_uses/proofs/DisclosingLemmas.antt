@@ -106,21 +106,21 @@ module _ (past : Past) (entry : Entry) (query : Query) (history read later : His
   pub accesses_are : query_accesses (front_of asked history) (asker_of asked) asked.patient asked.query.now ≡ entry_accesses history patient entry
   accesses_are = ap (λ (h : History). query_accesses h (asker_of asked) asked.patient asked.query.now) front_is
       ∙ (λ i. query_accesses read (record {
-      entry = its.entry_is i;
-      moment = its.moment_is i;
-      user = asked.user.now;
-      purpose = asked.purpose.now;
-      recipient = asked.recipient.now;
-    }) (its.patient_is i) (its.query_is i))
+        entry = its.entry_is i;
+        moment = its.moment_is i;
+        user = asked.user.now;
+        purpose = asked.purpose.now;
+        recipient = asked.recipient.now;
+      }) (its.patient_is i) (its.query_is i))
       ∙ sym (ap (λ (h : History). act_accesses h entry.seq entry.moment patient entry.act) (before_is past entry history read later comes)
       ∙ ap (act_accesses read entry.seq entry.moment patient) its.act_is
       ∙ ap (λ found. option_map_or (query_accesses read (record {
-      entry = entry.seq;
-      moment = entry.moment;
-      user = asked.user.now;
-      purpose = asked.purpose.now;
-      recipient = asked.recipient.now;
-    }) patient) found []) meant)
+        entry = entry.seq;
+        moment = entry.moment;
+        user = asked.user.now;
+        purpose = asked.purpose.now;
+        recipient = asked.recipient.now;
+      }) patient) found []) meant)
 
 -- ---- what a text meant
 at_length : (read later : History) (entry : Entry) → slice_get (read ++ entry ∷ later) (length read) ≡ Some entry
@@ -174,12 +174,14 @@ no_question_meant past entry query old none = λ history read later comes stands
 pub adds_meant : (past : Past) (entry : Entry) (query : Query) (old new : Disclosures) (asked : AskedThen) → IsAskedAs past entry query old.patient asked → TablesAreAsBefore old.tables new.tables → new.patient ≡ old.patient
     → AddsQuery asked new.tables old.accesses new.accesses → DisclosesMeant past entry query old new
 adds_meant past entry query old new asked its same patient adds = λ history read later comes stands means.
-    let still = stand_still old.tables new.tables read same stands in
-    (record {
-      same_patient = patient;
-      accesses_are = adds history (asked_over past entry query history read later comes means asked old.patient its new.tables still)
-          ∙ ap (λ l. old.accesses ++ l) (accesses_are past entry query history read later comes means asked old.patient its);
-    }, still)
+    let still = stand_still old.tables new.tables read same stands in (
+      record {
+        same_patient = patient;
+        accesses_are = adds history (asked_over past entry query history read later comes means asked old.patient its new.tables still)
+            ∙ ap (λ l. old.accesses ++ l) (accesses_are past entry query history read later comes means asked old.patient its);
+      },
+      still,
+    )
 
 pub text_meant : (past : Past) (entry : Entry) (query : Query) (text : Txt) (old new : Disclosures) → text_asked entry.act ≡ Some text → meaning_in past.catalog.now.names text ≡ Some query → DisclosesMeant past entry query old new → Discloses past entry true old new
 text_meant past entry query text old new is means adds = λ history read later comes stands.
@@ -214,4 +216,3 @@ takes_in past entry within old between new discloses patient_same accesses_same 
           ∙ (λ i. its.accesses_are i ++ (if same i then entry_accesses history (its.patient_is i) entry else []))
           ∙ sym (in_one_more patient test history read entry);
     }
-

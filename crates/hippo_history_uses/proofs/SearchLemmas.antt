@@ -235,4 +235,3 @@ module _ (asked : AskedThen) (tables : Tables) (lent : LentTables) (search : Sea
 pub not_lent : (asked : AskedThen) (tables : Tables) (accesses : List Access) → LendsTables tables asked.query.now.tables None → AddsQuery asked tables accesses accesses
 not_lent asked tables accesses none = λ history its.
     absurd (false≢true (sym (none (front_of asked history) its.tables_are) ∙ its.created))
-

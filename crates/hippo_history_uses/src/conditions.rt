@@ -43,7 +43,6 @@ fn column_is(alloc: Global, column: usize, value: &Value) -> Result<CondOf<Opera
     }
 }
 
-
 /// That the columns of a table's key have the values of a row.
 pub(crate) fn key_is(
     alloc: Global,

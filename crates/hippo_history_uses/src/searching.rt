@@ -219,20 +219,12 @@ fn rules_then(
     )
 }
 
-fn search_of<'a>(
-    asked: &'a AskedThen<'a>,
-    lent: LentTables<'a>,
-    rules: RulesInForce,
-) -> Search<'a>
+fn search_of<'a>(asked: &'a AskedThen<'a>, lent: LentTables<'a>, rules: RulesInForce) -> Search<'a>
     ensures asked { result.asked.now ≡ asked.now }
     ensures lent { result.lent ≡ lent.entry }
     ensures rules { result.rules ≡ rules }
 {
-    Search {
-        asked,
-        lent,
-        rules,
-    }
+    Search { asked, lent, rules }
 }
 
 /// Adds the accesses of a logged query over the tables as they were before it.

@@ -6,6 +6,6 @@ use Rattle.hippo_history_top.proofs.gathering.cover_piece.Given as goal
 
 abbrev pub invariant-loop-kept : goal.invariant-loop-kept
 invariant-loop-kept g l = record {
-  gathers : Gathers (g.G.Gather.Covers l.initial.gathered l.last) (g.G.Gather.Covers l.gathered l.last) (take l.kept-index l.piece);
+  gathers : Gathers (g.G.Gather.Covers l.initial.gathered l.asked) (g.G.Gather.Covers l.gathered l.asked) (take l.kept-index l.piece);
   last : l.number ≡ last_number l.initial.number (take l.kept-index l.piece);
 }

@@ -1,4 +1,5 @@
--- Entries are shown, or the rules or authorizations in force, or a digest.
+-- Entries are shown, the rules or authorizations in force, a digest, or what was disclosed of a
+-- patient.
 use Rattle.std.proofs.Common.{sym, subst}
 use Rattle.hippo_history_top.specs.declared.asking.View.{View}
 use Rattle.hippo_history_top.specs.Progress.{ShowsLoaded}
@@ -40,4 +41,13 @@ returns-in-Digest g c = record {
       (g.K.Sink.written c.args.sink.now) (g.K.Sink.written c.show_digest.new.sink) (g.K.Sink.faults c.args.sink.now) (g.K.Sink.faults c.show_digest.new.sink) c.args.steps.now c.show_digest.new.steps)
       (sym c.in-Digest.is)
       (c.show_digest.ensures.shows c.args.state);
+}
+
+pub returns-in-Patient : goal.returns-in-Patient
+returns-in-Patient g c = record {
+  shows = subst
+      (λ (view : View). ShowsLoaded c.args.state view c.show_patient-ending.result (g.P.Keeper.state c.args.keeper.now) (g.P.Keeper.state c.show_patient-ending.new.keeper)
+      (g.K.Sink.written c.args.sink.now) (g.K.Sink.written c.show_patient-ending.new.sink) (g.K.Sink.faults c.args.sink.now) (g.K.Sink.faults c.show_patient-ending.new.sink) c.args.steps.now c.show_patient-ending.new.steps)
+      (sym c.in-Patient.is)
+      c.show_patient-ending.ensures.shows;
 }

@@ -20,6 +20,6 @@ returns c = λ history schema its at there.
     let used = sym (c.in_ok-uses_row.ensures history schema its at there) ∙ c.if-not-branch.false in
     let asked_is = c.used_row.ensures.asked in
     let made = c.in_ok-access.ensures history (subst (λ (a : AskedThen). BookRepresents a.book.now history) (sym asked_is) its.search_is.book)
-        ∙ (λ i. access_to (front_of (asked_is i) history) (asker_of (asked_is i)) (asked_is i).query.now ((c.used_row.ensures.schema ∙ sym same) i) (c.used_row.ensures.kept i)) in
+    ∙ (λ i. access_to (front_of (asked_is i) history) (asker_of (asked_is i)) (asked_is i).query.now ((c.used_row.ensures.schema ∙ sym same) i) (c.used_row.ensures.kept i)) in
     one_added c.args.self.now (front_of asked history) schema kept c.args.accesses.now c.push.new.self c.in_ok-access.access
     (and_from _ _ about used) made c.in_ok-push.ensures.ok

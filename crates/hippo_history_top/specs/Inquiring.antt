@@ -1,0 +1,40 @@
+-- What was disclosed of a patient, as it is shown.
+use Rattle.std.specs.Prelude.{◌≡◌, Bool, ◌&&◌, List, ◌++◌, flat_map}
+use Rattle.hippo_values.specs.Texts.{Txt}
+use Rattle.hippo_model.specs.declared.entry.Entry.{Entry}
+use Rattle.hippo_model.specs.Terms.{History}
+use Rattle.hippo_report.specs.declared.format.Format.{Format}
+use Rattle.hippo_audit_job.specs.Examining.{IsPastOf}
+use Rattle.hippo_replay.specs.Standing.{Represents}
+use Rattle.hippo_replay.specs.declared.state.State.{State}
+use Rattle.hippo_history_formats.specs.declared.access.Access.{Access}
+use Rattle.hippo_history_formats.specs.Accesses.{access_header, access_line}
+use Rattle.hippo_history_uses.specs.Disclosing.{AreDisclosed}
+use Rattle.hippo_history_uses.specs.Accesses.{accesses_of}
+use Rattle.hippo_history_uses.specs.declared.disclosing.Disclosures.{Disclosures}
+use Rattle.hippo_history_top.specs.declared.asking.Inquiry.{Inquiry}
+use Rattle.hippo_history_top.specs.declared.disclosing.Sought.{Sought}
+use Rattle.hippo_history_top.specs.Dating.{is_from, is_to}
+
+-- whether an entry is in the stretch that is asked for
+abbrev pub is_inquired : Inquiry → Entry → Bool
+is_inquired inquiry entry = is_from inquiry.first entry && is_to inquiry.last entry
+
+-- the accesses to the patient's rows by the questions of the stretch
+abbrev pub accesses_asked : Inquiry → History → List Access
+accesses_asked inquiry history = accesses_of inquiry.patient (is_inquired inquiry) history
+
+-- what stands before all lines, and then a line for each access
+abbrev pub accesses_shown : Format → List Access → Txt
+accesses_shown format accesses = access_header format ++ flat_map (access_line format) accesses
+
+-- these accesses are those of the entries read so far, whatever entries follow
+abbrev pub FindsAccesses : Sought → Disclosures → History → Type 0
+FindsAccesses sought found read =
+    (history later : History) → IsPastOf sought.past history → history ≡ read ++ later
+    → AreDisclosed sought.inquiry.now.patient (is_inquired sought.inquiry.now) history read found
+
+-- what is searched for knows the past of each history that a state stands for
+abbrev pub KnowsPast : Sought → State → Type 0
+KnowsPast sought state =
+    (history : History) → Represents state history → IsPastOf sought.past history

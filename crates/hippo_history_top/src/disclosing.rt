@@ -1,0 +1,85 @@
+//! What was disclosed of a patient, one line for each access.
+ghost use Rattle.std.specs.Prelude.{◌≡◌, ◌++◌, [], ◌∷◌, flat_map, OnOk};
+ghost use Rattle.hippo_model.specs.Terms.{History};
+ghost use Rattle.hippo_history_formats.specs.Accesses.{access_line};
+ghost use Rattle.hippo_history_top.specs.Inquiring.{is_inquired, accesses_shown, FindsAccesses};
+
+use crate::asking::Inquiry;
+use crate::gathering::Gather;
+use crate::scope::{is_from, is_to};
+use hippo_audit_job::Past;
+use hippo_history_formats::{Access, access_header, append_access};
+use hippo_history_uses::Disclosures;
+use hippo_model::Entry;
+use hippo_report::Format;
+use hippo_values::{Memory, Txt};
+use std::alloc::Global;
+
+/// What is searched for: the accesses that an inquiry asks for, in a history of which this is known.
+#[derive(Clone, Copy)]
+pub(crate) struct Sought<'a> {
+    pub past: Past<'a>,
+    pub inquiry: &'a Inquiry,
+}
+
+fn is_inquired(inquiry: &Inquiry, entry: &Entry) -> bool
+    ensures { result ≡ is_inquired inquiry.now entry.now }
+{
+    is_from(inquiry.first, entry) && is_to(inquiry.last, entry)
+}
+
+// Goes on over the next entry.
+fn add(
+    alloc: Global,
+    sought: &Sought<'_>,
+    entry: &Entry,
+    found: &mut Disclosures,
+) -> Result<(), Memory>
+    ensures covers { OnOk result ((read : History) → FindsAccesses sought.now found.old read
+        → FindsAccesses sought.now found.new (read ++ entry.now ∷ [])) }
+{
+    let within = is_inquired(sought.inquiry, entry);
+    found.take_in(alloc, &sought.past, entry, within)
+}
+
+impl<'a> Gather<Sought<'a>> for Disclosures {
+    ghost use Rattle.hippo_history_top.specs.Inquiring.{FindsAccesses};
+
+    ghost Covers = { λ found sought read. FindsAccesses sought found read };
+
+    fn cover(
+        &mut self,
+        alloc: Global,
+        asked: &Sought<'a>,
+        entry: &Entry,
+    ) -> Result<(), Memory> {
+        add(alloc, asked, entry, self)
+    }
+}
+
+fn append_lines(
+    alloc: Global,
+    format: Format,
+    accesses: &[Access],
+    out: &mut Txt,
+) -> Result<(), Memory>
+    ensures { OnOk result (out.new ≡ out.old ++ flat_map (access_line format) accesses.now) }
+{
+    for access in accesses {
+        append_access(alloc, format, access, out)?;
+    }
+    Ok(())
+}
+
+/// Appends what stands before all lines, and then a line for each access.
+pub(crate) fn append_accesses(
+    alloc: Global,
+    format: Format,
+    accesses: &[Access],
+    out: &mut Txt,
+) -> Result<(), Memory>
+    ensures { OnOk result (out.new ≡ out.old ++ accesses_shown format accesses.now) }
+{
+    out.append(access_header(format))?;
+    append_lines(alloc, format, accesses, out)
+}
