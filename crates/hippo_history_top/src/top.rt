@@ -25,8 +25,8 @@ ghost use Rattle.hippo_history_top.specs.Saying.{showing_usage, missing_line, Wr
 
 use crate::asking::{Inquiry, Page, Roster, View};
 use crate::damage::show_damaged;
-use crate::disclosing::{Sought, append_accesses};
 use crate::digest::show_digest;
+use crate::disclosing::{Sought, append_accesses};
 use crate::endings::{ending_of, served_or};
 use crate::gathering::gather_all;
 use crate::moments::Moments;
