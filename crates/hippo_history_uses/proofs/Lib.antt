@@ -5,4 +5,3 @@ pub mod LendingLemmas
 pub mod SharingLemmas
 pub mod SearchLemmas
 pub mod DisclosingLemmas
-mod UsesExamples
