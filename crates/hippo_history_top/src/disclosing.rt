@@ -47,12 +47,7 @@ impl<'a> Gather<Sought<'a>> for Disclosures {
 
     ghost Covers = { λ found sought read. FindsAccesses sought found read };
 
-    fn cover(
-        &mut self,
-        alloc: Global,
-        asked: &Sought<'a>,
-        entry: &Entry,
-    ) -> Result<(), Memory> {
+    fn cover(&mut self, alloc: Global, asked: &Sought<'a>, entry: &Entry) -> Result<(), Memory> {
         add(alloc, asked, entry, self)
     }
 }

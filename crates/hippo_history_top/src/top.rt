@@ -23,8 +23,8 @@ ghost use Rattle.hippo_history_top.specs.Outcomes.{ShowsView, BeginsView, Ends};
 ghost use Rattle.hippo_history_top.specs.Saying.{showing_usage, missing_line, Writes, CountsWrites};
 
 use crate::asking::{Inquiry, Page, Roster, View};
-use crate::disclosing::{Sought, append_accesses};
 use crate::digest::show_digest;
+use crate::disclosing::{Sought, append_accesses};
 use crate::endings::{ending_of, served_or};
 use crate::gathering::gather_all;
 use crate::moments::Moments;
