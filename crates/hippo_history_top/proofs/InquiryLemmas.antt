@@ -1,5 +1,5 @@
 -- What was disclosed of a patient, with one more entry, and at the end.
-use Rattle.std.proofs.Common.{◌≡◌, ◌∙◌, ℕ, Bool, [], ◌∷◌, ◌++◌, Option, unwrap_or, refl, sym, ap, append_assoc}
+use Rattle.std.proofs.Common.{◌≡◌, ◌∙◌, ℕ, ℤ, Bool, [], ◌∷◌, ◌++◌, Option, unwrap_or, refl, sym, ap, subst, append_assoc}
 use Rattle.std.proofs.lemmas.List.{append-nil}
 use Rattle.hippo_values.specs.Texts.{Txt}
 use Rattle.hippo_model.specs.declared.entry.Entry.{Entry}
@@ -34,8 +34,10 @@ found-more sought entry within old new is takes read so history later past whole
     (so history (entry ∷ later) past longer)
 
 -- nothing was read yet
-pub found-nothing : (sought : Sought) (found : Disclosures) → ((test : Entry → Bool) (history : History) → AreDisclosed sought.inquiry.now.patient test history [] found) → FindsAccesses sought found []
-found-nothing sought found new history later past whole = new (is_inquired sought.inquiry.now) history
+pub found-nothing : (sought : Sought) (found : Disclosures) (patient : ℤ) → patient ≡ sought.inquiry.now.patient
+    → ((test : Entry → Bool) (history : History) → AreDisclosed patient test history [] found) → FindsAccesses sought found []
+found-nothing sought found patient is new history later past whole =
+    subst (λ (number : ℤ). AreDisclosed number (is_inquired sought.inquiry.now) history [] found) is (new (is_inquired sought.inquiry.now) history)
 
 -- all entries were read, and the accesses are those of the history
 module _ (sought : Sought) (state : State) (knows : KnowsPast sought state) (start found : Disclosures) (before after : KeeperState) (ticks ticks' : ℕ) (written written' : Option Txt) (faults faults' : ℕ) (cut : Option Ending) where
