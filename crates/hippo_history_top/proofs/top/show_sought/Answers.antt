@@ -11,10 +11,10 @@ pub returns-in-Ok : goal.returns-in-Ok
 returns-in-Ok g c =
     let fits : FitsSigned w64 c.args.sought.now.inquiry.now.patient = search rules in
     record {
-  shows = λ state knows. rw c.served_or.ensures (loaded_patient c.args.sought.now state knows c.new-found.result c.gather_all.new.gathered (g.P.Keeper.state c.args.keeper.now) (g.P.Keeper.state c.gather_all.new.keeper) c.args.steps.now c.gather_all.new.steps
-      (g.K.Sink.written c.args.sink.now) (g.K.Sink.written c.write_accesses.new.sink) (g.K.Sink.faults c.args.sink.now) (g.K.Sink.faults c.write_accesses.new.sink) c.write_accesses.result
-      (found-nothing c.args.sought.now c.new-found.result _ (to_z-of_z w64 c.args.sought.now.inquiry.now.patient fits) c.new-found.ensures) c.in-Ok.ensures.gathers (rw c.accesses.ensures at c.write_accesses.ensures.writes));
-}
+      shows = λ state knows. rw c.served_or.ensures (loaded_patient c.args.sought.now state knows c.new-found.result c.gather_all.new.gathered (g.P.Keeper.state c.args.keeper.now) (g.P.Keeper.state c.gather_all.new.keeper) c.args.steps.now c.gather_all.new.steps
+          (g.K.Sink.written c.args.sink.now) (g.K.Sink.written c.write_accesses.new.sink) (g.K.Sink.faults c.args.sink.now) (g.K.Sink.faults c.write_accesses.new.sink) c.write_accesses.result
+          (found-nothing c.args.sought.now c.new-found.result _ (to_z-of_z w64 c.args.sought.now.inquiry.now.patient fits) c.new-found.ensures) c.in-Ok.ensures.gathers (rw c.accesses.ensures at c.write_accesses.ensures.writes));
+    }
 
 pub returns : goal.returns
 returns g c = record {
