@@ -69,7 +69,7 @@ at_least number fits = omega (arith, ints, fits.sfits)
 at_most : (number : ℤ) → FitsSigned w64 number → number ≤ℤ greatest
 at_most number fits = omega (arith, ints, fits.sfits)
 
-module _ {E : Type 0} (word : Txt) where
+module _ (word : Txt) where
   abbrev patient_value : ℤ
   patient_value = signed_digits_value 10 word
 
@@ -83,7 +83,7 @@ module _ {E : Type 0} (word : Txt) where
   patient_parts : is_patient ≡ true → IsNumeral 10 (without_leading_sign word) × FitsSigned w64 patient_value
   patient_parts is = let parts = accepts-Accepts false (Signed least greatest) word is in (parts.0, parts.1)
 
-  pub patient-parsed : (read : Result ℤ E) → ParsesSigned w64 10 word read → result_ok read ≡ patient_number word
+  pub patient-parsed : {E : Type 0} (read : Result ℤ E) → ParsesSigned w64 10 word read → result_ok read ≡ patient_number word
   patient-parsed (Ok number) parses = ap Some parses.1 ∙ ap (λ (test : Bool). then_some test patient_value) (sym (patient_there parses.0))
   patient-parsed (Err error) fails =
       ap (λ (test : Bool). then_some test patient_value) (sym (false_from_ne_true is_patient (λ is. fails (patient_parts is))))
