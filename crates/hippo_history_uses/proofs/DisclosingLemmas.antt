@@ -1,6 +1,6 @@
 -- One more entry: its accesses, and the tables after it.
 use Rattle.std.proofs.Common.{◌≡◌, ◌∙◌, sym, ap, refl, subst, ℕ, ℤ, ◌+◌, ◌-◌, Bool, true, false, cond, List, [], ◌∷◌, ◌++◌, map, filter, length, take, Option, None, Some, append_assoc, append-nil, arith}
-use Rattle.std.specs.Prelude.{◌&&◌, is_some, slice_get, flat_map}
+use Rattle.std.specs.Prelude.{◌&&◌, is_some, slice_get, flat_map, if◌then◌else◌}
 use Rattle.std.specs.List.{AllByRecursion, list_all}
 use Rattle.std.specs.Option.{option_map_or}
 use Rattle.std.proofs.lemmas.Bool.{and_parts, and_from, false≢true}
@@ -23,7 +23,9 @@ use Rattle.hippo_tables.proofs.NextLemmas.{IsNextAct-valid}
 use Rattle.hippo_policy.specs.declared.book.PolicyBook.{PolicyBook}
 use Rattle.hippo_policy.specs.Books.{BookRepresents}
 use Rattle.hippo_typing.specs.Meanings.{meaning, meaning_in}
+use Rattle.hippo_model_laws.specs.Audits.{StandsIn}
 use Rattle.hippo_audit_job.specs.declared.past.Past.{Past}
+use Rattle.hippo_audit_job.proofs.StretchLemmas.{question_means}
 use Rattle.hippo_audit_needs.proofs.PastLemmas.{created_by_meaning}
 use Rattle.hippo_history_formats.specs.declared.access.Access.{Access}
 use Rattle.hippo_history_uses.specs.declared.asked.AskedThen.{AskedThen}
@@ -104,18 +106,113 @@ module _ (past : Past) (entry : Entry) (query : Query) (history read later : His
   pub accesses_are : query_accesses (front_of asked history) (asker_of asked) asked.patient asked.query.now ≡ entry_accesses history patient entry
   accesses_are = ap (λ (h : History). query_accesses h (asker_of asked) asked.patient asked.query.now) front_is
       ∙ (λ i. query_accesses read (record {
-      entry = its.entry_is i;
-      moment = its.moment_is i;
-      user = asked.user.now;
-      purpose = asked.purpose.now;
-      recipient = asked.recipient.now;
-    }) (its.patient_is i) (its.query_is i))
+        entry = its.entry_is i;
+        moment = its.moment_is i;
+        user = asked.user.now;
+        purpose = asked.purpose.now;
+        recipient = asked.recipient.now;
+      }) (its.patient_is i) (its.query_is i))
       ∙ sym (ap (λ (h : History). act_accesses h entry.seq entry.moment patient entry.act) (before_is past entry history read later comes)
       ∙ ap (act_accesses read entry.seq entry.moment patient) its.act_is
       ∙ ap (λ found. option_map_or (query_accesses read (record {
-      entry = entry.seq;
-      moment = entry.moment;
-      user = asked.user.now;
-      purpose = asked.purpose.now;
-      recipient = asked.recipient.now;
-    }) patient) found []) meant)
+        entry = entry.seq;
+        moment = entry.moment;
+        user = asked.user.now;
+        purpose = asked.purpose.now;
+        recipient = asked.recipient.now;
+      }) patient) found []) meant)
+
+-- ---- what a text meant
+at_length : (read later : History) (entry : Entry) → slice_get (read ++ entry ∷ later) (length read) ≡ Some entry
+at_length [] later entry = refl
+at_length (first ∷ read) later entry = at_length read later entry
+
+pub record IsAskedText (act : Act) (text : Txt) : Type 0 where
+  pub user : Name
+  pub purpose : Name
+  pub recipient : Name
+  pub is : act ≡ Asked user purpose recipient text
+
+asked_text : (act : Act) (text : Txt) → text_asked act ≡ Some text → IsAskedText act text
+asked_text (Asked user purpose recipient other) text is =
+    record { user = user; purpose = purpose; recipient = recipient; is = ap (Asked user purpose recipient) (same_Some other text is) }
+asked_text act text is = absurd (none-some text is)
+
+module _ (past : Past) (entry : Entry) (history read later : History) (comes : ComesAfter past entry history read later) (text : Txt) (is : text_asked entry.act ≡ Some text) where
+  stands : StandsIn meaning history entry
+  stands = record {
+    valid = comes.past_is.valid;
+    place = length read;
+    stands = ap (λ (h : History). slice_get h (length read)) comes.whole ∙ at_length read later entry;
+  }
+
+  found : ((query : Query) × (meaning (before_entry entry history) text ≡ Some query) × (meaning history text ≡ Some query))
+  found = let its = asked_text entry.act text is in question_means history entry stands its.user its.purpose its.recipient text its.is
+
+  now_is : meaning_in past.catalog.now.names text ≡ meaning history text
+  now_is = ap (λ names. meaning_in names text) comes.past_is.names
+
+  pub meant_then : (query : Query) → meaning_in past.catalog.now.names text ≡ Some query → (other : Txt) → text_asked entry.act ≡ Some other → meaning (before_entry entry history) other ≡ Some query
+  meant_then query means other other_is =
+      let same : text ≡ other = same_Some text other (sym is ∙ other_is) in
+      ap (meaning (before_entry entry history)) (sym same) ∙ found.1 ∙ sym found.2 ∙ sym now_is ∙ means
+
+  pub means_something : meaning_in past.catalog.now.names text ≡ None → ⊥
+  means_something none = none-some found.0 (sym none ∙ now_is ∙ found.2)
+
+-- ---- the calls
+-- an entry that is no logged query adds nothing
+pub no_question : (past : Past) (entry : Entry) (old : Disclosures) → text_asked entry.act ≡ None → Discloses past entry true old old
+no_question past entry old none = λ history read later comes stands.
+    (record { same_patient = refl; accesses_are = none_there past entry history read later comes old.patient old.accesses none }, stands)
+
+pub no_question_meant : (past : Past) (entry : Entry) (query : Query) (old : Disclosures) → text_asked entry.act ≡ None → DisclosesMeant past entry query old old
+no_question_meant past entry query old none = λ history read later comes stands means.
+    no_question past entry old none history read later comes stands
+
+-- the accesses of a logged query are added
+pub adds_meant : (past : Past) (entry : Entry) (query : Query) (old new : Disclosures) (asked : AskedThen) → IsAskedAs past entry query old.patient asked → TablesAreAsBefore old.tables new.tables → new.patient ≡ old.patient
+    → AddsQuery asked new.tables old.accesses new.accesses → DisclosesMeant past entry query old new
+adds_meant past entry query old new asked its same patient adds = λ history read later comes stands means.
+    let still = stand_still old.tables new.tables read same stands in (
+      record {
+        same_patient = patient;
+        accesses_are = adds history (asked_over past entry query history read later comes means asked old.patient its new.tables still)
+            ∙ ap (λ l. old.accesses ++ l) (accesses_are past entry query history read later comes means asked old.patient its);
+      },
+      still,
+    )
+
+pub text_meant : (past : Past) (entry : Entry) (query : Query) (text : Txt) (old new : Disclosures) → text_asked entry.act ≡ Some text → meaning_in past.catalog.now.names text ≡ Some query → DisclosesMeant past entry query old new → Discloses past entry true old new
+text_meant past entry query text old new is means adds = λ history read later comes stands.
+    adds history read later comes stands (meant_then past entry history read later comes text is query means)
+
+pub text_meant_nothing : (past : Past) (entry : Entry) (text : Txt) (old new : Disclosures) → text_asked entry.act ≡ Some text → meaning_in past.catalog.now.names text ≡ None → Discloses past entry true old new
+text_meant_nothing past entry text old new is means = λ history read later comes stands.
+    absurd (means_something past entry history read later comes text is means)
+
+pub not_counted : (past : Past) (entry : Entry) (old : Disclosures) → Discloses past entry false old old
+not_counted past entry old = λ history read later comes stands.
+    (record { same_patient = refl; accesses_are = sym (append-nil old.accesses) }, stands)
+
+in_one_more : (patient : ℤ) (test : Entry → Bool) (history read : History) (entry : Entry)
+    → accesses_in patient test history (read ++ entry ∷ []) ≡ accesses_in patient test history read ++ (if test entry then entry_accesses history patient entry else [])
+in_one_more patient test history read entry =
+    ap (flat_map (entry_accesses history patient)) (filter-append test read (entry ∷ []))
+    ∙ flat_map-append (entry_accesses history patient) (filter test read) (filter test (entry ∷ []))
+    ∙ ap (λ l. accesses_in patient test history read ++ l) (one (test entry))
+  where
+    one : (counts : Bool) → flat_map (entry_accesses history patient) (cond counts (entry ∷ []) []) ≡ (if counts then entry_accesses history patient entry else [])
+    one true = append-nil (entry_accesses history patient entry)
+    one false = refl
+
+pub takes_in : (past : Past) (entry : Entry) (within : Bool) (old between new : Disclosures) → Discloses past entry within old between → new.patient ≡ between.patient → new.accesses ≡ between.accesses → TablesAdd between.tables new.tables entry → TakesIn past entry within old new
+takes_in past entry within old between new discloses patient_same accesses_same adds = λ patient test history read later same comes its.
+    let both = discloses history read later comes its.tables_are in
+    record {
+      patient_is = patient_same ∙ both.0.same_patient ∙ its.patient_is;
+      tables_are = stand_after past entry history read later comes between.tables new.tables adds both.1;
+      accesses_are = accesses_same ∙ both.0.accesses_are
+          ∙ (λ i. its.accesses_are i ++ (if same i then entry_accesses history (its.patient_is i) entry else []))
+          ∙ sym (in_one_more patient test history read entry);
+    }

@@ -20,17 +20,25 @@ use Rattle.hippo_model.specs.Histories.{schema_at}
 use Rattle.hippo_model.specs.Rows.{table_rows}
 use Rattle.hippo_model.specs.Terms.{History, Place}
 use Rattle.hippo_tables_keyed.specs.RowSets.{KeyedRows, kept_at}
+use Rattle.hippo_model.specs.Validity.{is_valid}
+use Rattle.hippo_policy.specs.Books.{BookRepresents}
+use Rattle.hippo_tables.specs.declared.tables.Tables.{Tables}
 use Rattle.hippo_tables.proofs.StandingLemmas.{schema_at-named}
+use Rattle.hippo_rewrite.specs.RewritingLaws.{rules_at}
+use Rattle.hippo_typing.specs.Meanings.{meaning}
 use Rattle.hippo_typing_catalog.proofs.ListLemmas.{drop_at_item}
 use Rattle.hippo_audit_common.specs.Commons.{place_in}
 use Rattle.hippo_audit_search.specs.HistoryLaws.{AuditNeedsWhatItHas}
 use Rattle.hippo_audit_search.proofs.CommonLemmas.{same_as_itself, place-found}
 use Rattle.hippo_history_formats.specs.declared.access.Access.{Access}
+use Rattle.hippo_history_uses.specs.declared.asked.AskedThen.{AskedThen}
+use Rattle.hippo_history_uses.specs.declared.lending.LentTables.{LentTables}
 use Rattle.hippo_history_uses.specs.declared.searching.Search.{Search}
 use Rattle.hippo_history_uses.specs.Accesses.{asker_context, access_to, table_accesses, query_accesses}
 use Rattle.hippo_history_uses.specs.Asking.{asker_of, front_of}
 use Rattle.hippo_history_uses.specs.Conditions.{column_is, key_is, audit_of_rows}
-use Rattle.hippo_history_uses.specs.Searching.{IsSearchOf, IsWhole, IsSeat, IsAlone, IsSubjectOf, IsTableOf, SharesThen, UsesThen, UsesAny, AddsRow, AddsTable, AddsAll, rows_accesses, table_there}
+use Rattle.hippo_history_uses.specs.Lending.{AreThoseOf, LendsEach, LendsTables}
+use Rattle.hippo_history_uses.specs.Searching.{IsSearchOf, IsAskedOver, IsBegun, AddsQuery, IsWhole, IsSeat, IsAlone, IsSubjectOf, IsTableOf, SharesThen, UsesThen, UsesAny, AddsRow, AddsTable, AddsAll, rows_accesses, table_there}
 use Rattle.hippo_history_uses.specs.Uses.{is_about, uses_row, used_rows}
 use Rattle.hippo_history_uses.proofs.RowLemmas.{any_at}
 use Rattle.hippo_history_uses.proofs.SharingLemmas.{got}
@@ -51,10 +59,10 @@ stands_in (name ∷ names) (suc place) within =
 
 module _ (search : Search) (place : Place) (seat : IsSeat search place) (history : History) (schema : Schema) (its : IsTableOf search place history schema) where
   abbrev names : List Name
-  names = search.asked.query.now.tables
+  names = search.asked.now.query.now.tables
 
   abbrev front : History
-  front = front_of search.asked history
+  front = front_of search.asked.now history
 
   -- the table was created with this schema
   pub created_there : schema_at front (table_there search place) ≡ Some schema
@@ -82,11 +90,11 @@ module _ (search : Search) (place : Place) (seat : IsSeat search place) (history
 -- ---- uses
 module _ (law : AuditNeedsWhatItHas) (search : Search) (place : Place) (seat : IsSeat search place) where
   abbrev audit_there : CondOf Operand → Audit
-  audit_there condition = audit_of_rows (table_there search place) search.asked.moment [] condition
+  audit_there condition = audit_of_rows (table_there search place) search.asked.now.moment [] condition
 
   abbrev shared_then : History → Name → CondOf Operand → Bool
   shared_then history name condition =
-      is_some (first_serving (front_of search.asked history) (asker_context (asker_of search.asked)) search.asked.query.now (audit_of_rows name search.asked.moment [] condition))
+      is_some (first_serving (front_of search.asked.now history) (asker_context (asker_of search.asked.now)) search.asked.now.query.now (audit_of_rows name search.asked.now.moment [] condition))
 
   -- an audit of a row's key shares something exactly where the query used the row
   pub uses_then : (schema : Schema) (kept : BornRow) (used : Bool) → slice_get search.lent.schemas place ≡ Some schema → SharesThen search (audit_there (key_is schema.key kept.row)) used → UsesThen search place kept used
@@ -95,24 +103,24 @@ module _ (law : AuditNeedsWhatItHas) (search : Search) (place : Place) (seat : I
       shares history its.search_is
       ∙ ap (λ (name : Name). shared_then history name (key_is schema.key kept.row)) (named search place seat history other its)
       ∙ ap (λ (s : Schema). shared_then history other.name (key_is s.key kept.row)) (sym same)
-      ∙ uses-by_key law (front_of search.asked history) (asker_context (asker_of search.asked)) search.asked.query.now other search.asked.moment
+      ∙ uses-by_key law (front_of search.asked.now history) (asker_context (asker_of search.asked.now)) search.asked.now.query.now other search.asked.now.moment
       (created_so search place seat history other its) (among search place seat history other its) row kept there
 
   -- if an audit of the patient's number shares nothing, the query used no row about the patient
-  pub uses_any : (subject : Place) (used : Bool) → IsSubjectOf search place subject → SharesThen search (audit_there (column_is subject (Int search.asked.patient))) used → UsesAny search place used
+  pub uses_any : (subject : Place) (used : Bool) → IsSubjectOf search place subject → SharesThen search (audit_there (column_is subject (Int search.asked.now.patient))) used → UsesAny search place used
   uses_any subject used is shares = λ history schema its none.
-      none-by_number law (front_of search.asked history) (asker_context (asker_of search.asked)) search.asked.query.now schema search.asked.moment
-      (created_so search place seat history schema its) (among search place seat history schema its) subject search.asked.patient
+      none-by_number law (front_of search.asked.now history) (asker_context (asker_of search.asked.now)) search.asked.now.query.now schema search.asked.now.moment
+      (created_so search place seat history schema its) (among search place seat history schema its) subject search.asked.now.patient
       (sym (ap (option_and_then (λ (s : Schema). s.subject)) its.schema_is) ∙ is)
-      (sym (ap (λ (name : Name). shared_then history name (column_is subject (Int search.asked.patient))) (named search place seat history schema its)) ∙ sym (shares history its.search_is) ∙ none)
+      (sym (ap (λ (name : Name). shared_then history name (column_is subject (Int search.asked.now.patient))) (named search place seat history schema its)) ∙ sym (shares history its.search_is) ∙ none)
 
 -- ---- rows
 module _ (search : Search) (front : History) (schema : Schema) where
   abbrev access : BornRow → Access
-  access kept = access_to front (asker_of search.asked) search.asked.query.now schema kept
+  access kept = access_to front (asker_of search.asked.now) search.asked.now.query.now schema kept
 
   abbrev counts : BornRow → Bool
-  counts kept = is_about search.asked.patient schema kept && uses_row front (asker_context (asker_of search.asked)) search.asked.query.now schema kept
+  counts kept = is_about search.asked.now.patient schema kept && uses_row front (asker_context (asker_of search.asked.now)) search.asked.now.query.now schema kept
 
   pub rows-append : (first rest : List BornRow) → rows_accesses search front schema (first ++ rest) ≡ rows_accesses search front schema first ++ rows_accesses search front schema rest
   rows-append first rest = ap (map access) (filter-append counts first rest) ∙ map-append access (filter counts first) (filter counts rest)
@@ -126,6 +134,17 @@ module _ (search : Search) (front : History) (schema : Schema) where
       ∙ append_assoc accesses (rows_accesses search front schema (kept ∷ [])) (rows_accesses search front schema (drop (place + 1) rows))
       ∙ ap (λ l. accesses ++ l) (sym (rows-append (kept ∷ []) (drop (place + 1) rows)))
       ∙ ap (λ (left : List BornRow). accesses ++ rows_accesses search front schema left) (sym (drop_at_item rows place kept at))
+      ∙ so_far
+
+  none_left : (rows : List BornRow) → drop (length rows) rows ≡ []
+  none_left [] = refl
+  none_left (kept ∷ rows) = none_left rows
+
+  -- after the last row, all accesses are added
+  pub rows_done : (rows : List BornRow) (row : ℕ) (accesses whole : List Access) → row ≡ length rows → accesses ++ rows_accesses search front schema (drop row rows) ≡ whole → accesses ≡ whole
+  rows_done rows row accesses whole end so_far =
+      sym (append-nil accesses)
+      ∙ ap (λ (left : List BornRow). accesses ++ rows_accesses search front schema left) (sym (ap (λ (n : ℕ). drop n rows) end ∙ none_left rows))
       ∙ so_far
 
   one_counts : (kept : BornRow) (test : Bool) → counts kept ≡ test → rows_accesses search front schema (kept ∷ []) ≡ cond test (access kept ∷ []) []
@@ -142,49 +161,77 @@ module _ (search : Search) (front : History) (schema : Schema) where
 -- ---- tables
 -- no row is used, so nothing is added
 pub none_added : (search : Search) (place : Place) (accesses : List Access)
-    → ((history : History) (schema : Schema) → IsTableOf search place history schema → used_rows (front_of search.asked history) (asker_context (asker_of search.asked)) search.asked.query.now search.asked.patient schema ≡ [])
+    → ((history : History) (schema : Schema) → IsTableOf search place history schema → used_rows (front_of search.asked.now history) (asker_context (asker_of search.asked.now)) search.asked.now.query.now search.asked.now.patient schema ≡ [])
     → AddsTable search place accesses accesses
 none_added search place accesses none = λ history schema its.
-    sym (append-nil accesses) ∙ ap (λ (rows : List BornRow). accesses ++ map (access_to (front_of search.asked history) (asker_of search.asked) search.asked.query.now schema) rows) (sym (none history schema its))
+    sym (append-nil accesses) ∙ ap (λ (rows : List BornRow). accesses ++ map (access_to (front_of search.asked.now history) (asker_of search.asked.now) search.asked.now.query.now schema) rows) (sym (none history schema its))
 
 pub none_without : (search : Search) (place : Place) (schema : Schema) (accesses : List Access) → slice_get search.lent.schemas place ≡ Some schema → schema.subject ≡ None → AddsTable search place accesses accesses
 none_without search place schema accesses at none =
     none_added search place accesses (λ history other its.
-    none-without (front_of search.asked history) (asker_context (asker_of search.asked)) search.asked.query.now search.asked.patient other
+    none-without (front_of search.asked.now history) (asker_context (asker_of search.asked.now)) search.asked.now.query.now search.asked.now.patient other
     (ap (λ (s : Schema). s.subject) (same_Some other schema (sym its.schema_is ∙ at)) ∙ none))
 
 -- ---- all tables
-pub seat_of : (search : Search) (index : Place) (table : Name) → slice_get search.asked.query.now.tables index ≡ Some table → IsSeat search (place_in search.asked.query.now.tables table)
+pub seat_of : (search : Search) (index : Place) (table : Name) → slice_get search.asked.now.query.now.tables index ≡ Some table → IsSeat search (place_in search.asked.now.query.now.tables table)
 seat_of search index table at =
-    let found = place-found search.asked.query.now.tables table (any_at (bytes_eq table) search.asked.query.now.tables index table at (same_as_itself table)) in
-    record { within = found.0; first = ap (place_in search.asked.query.now.tables) found.1 }
+    let found = place-found search.asked.now.query.now.tables table (any_at (bytes_eq table) search.asked.now.query.now.tables index table at (same_as_itself table)) in
+    record { within = found.0; first = ap (place_in search.asked.now.query.now.tables) found.1 }
+
+abbrev pub of_table : Search → History → Name → List Access
+of_table search history table =
+    option_map_or (table_accesses (front_of search.asked.now history) (asker_of search.asked.now) search.asked.now.query.now search.asked.now.patient) (schema_at (front_of search.asked.now history) table) []
 
 module _ (search : Search) (whole : IsWhole search) (history : History) (its : IsSearchOf search history) where
-  abbrev of_table : Name → List Access
-  of_table table =
-      option_map_or (table_accesses (front_of search.asked history) (asker_of search.asked) search.asked.query.now search.asked.patient) (schema_at (front_of search.asked history) table) []
-
   schema_in : (schemas : List Schema) (place : Place) → place < length schemas → ((schema : Schema) × (slice_get schemas place ≡ Some schema))
   schema_in [] place within = absurd (omega (arith, within))
   schema_in (schema ∷ rest) zero within = (schema, refl)
   schema_in (schema ∷ rest) (suc place) within = schema_in rest place (omega (arith, within))
 
   -- the accesses to the rows of one more table
-  pub table_turn : (index : Place) (table : Name) (accesses more all : List Access) → slice_get search.asked.query.now.tables index ≡ Some table
-      → accesses ++ flat_map of_table (drop index search.asked.query.now.tables) ≡ all
-      → AddsTable search (place_in search.asked.query.now.tables table) accesses more
-      → more ++ flat_map of_table (drop (index + 1) search.asked.query.now.tables) ≡ all
+  pub table_turn : (index : Place) (table : Name) (accesses more all : List Access) → slice_get search.asked.now.query.now.tables index ≡ Some table
+      → accesses ++ flat_map (of_table search history) (drop index search.asked.now.query.now.tables) ≡ all
+      → AddsTable search (place_in search.asked.now.query.now.tables table) accesses more
+      → more ++ flat_map (of_table search history) (drop (index + 1) search.asked.now.query.now.tables) ≡ all
   table_turn index table accesses more all at so_far adds =
-      let tables = search.asked.query.now.tables in
+      let tables = search.asked.now.query.now.tables in
       let place = place_in tables table in
       let seat = seat_of search index table at in
       let found = place-found tables table (any_at (bytes_eq table) tables index table at (same_as_itself table)) in
       let schema = schema_in search.lent.schemas place (omega (arith, whole.schemas, found.0)) in
-      let its_table = record { search_is = its; schema_is = schema.1 } in
-      let created : schema_at (front_of search.asked history) table ≡ Some schema.0 = ap (schema_at (front_of search.asked history)) (sym found.1) ∙ created_there search place seat history schema.0 its_table in
-      ap (λ l. l ++ flat_map of_table (drop (index + 1) tables)) (adds history schema.0 its_table)
-      ∙ append_assoc accesses _ (flat_map of_table (drop (index + 1) tables))
-      ∙ ap (λ l. accesses ++ (l ++ flat_map of_table (drop (index + 1) tables)))
-      (sym (ap (λ found. option_map_or (table_accesses (front_of search.asked history) (asker_of search.asked) search.asked.query.now search.asked.patient) found []) created))
-      ∙ ap (λ (left : List Name). accesses ++ flat_map of_table left) (sym (drop_at_item tables index table at))
+      let its_table : IsTableOf search place history schema.0 = record { search_is = its; schema_is = schema.1 } in
+      let created : schema_at (front_of search.asked.now history) table ≡ Some schema.0 = ap (schema_at (front_of search.asked.now history)) (sym found.1) ∙ created_there search place seat history schema.0 its_table in
+      ap (λ l. l ++ flat_map (of_table search history) (drop (index + 1) tables)) (adds history schema.0 its_table)
+      ∙ append_assoc accesses _ (flat_map (of_table search history) (drop (index + 1) tables))
+      ∙ ap (λ l. accesses ++ (l ++ flat_map (of_table search history) (drop (index + 1) tables)))
+      (sym (ap (λ found. option_map_or (table_accesses (front_of search.asked.now history) (asker_of search.asked.now) search.asked.now.query.now search.asked.now.patient) found []) created))
+      ∙ ap (λ (left : List Name). accesses ++ flat_map (of_table search history) left) (sym (drop_at_item tables index table at))
       ∙ so_far
+
+-- ---- a query over its tables
+module _ (asked : AskedThen) (tables : Tables) (lent : LentTables) (search : Search) (lends : LendsEach tables asked.query.now.tables lent) (begun : IsBegun asked lent search) where
+  pub whole_of : IsWhole search
+  whole_of = record {
+    schemas = (λ i. length (begun.lent_is i).schemas) ∙ lends.schemas_many ∙ sym (λ i. length (begun.asked_is i).query.now.tables);
+    sets = (λ i. length (begun.lent_is i).sets) ∙ lends.sets_many ∙ sym (λ i. length (begun.asked_is i).query.now.tables);
+  }
+
+  search_of : (history : History) → IsAskedOver asked tables history → IsSearchOf search history
+  search_of history its = record {
+    valid = subst (λ (a : AskedThen). is_valid meaning (front_of a history) ≡ true) (sym begun.asked_is) its.valid;
+    book = subst (λ (a : AskedThen). BookRepresents a.book.now history) (sym begun.asked_is) its.book;
+    tables = subst (λ (l : LentTables). AreThoseOf (front_of search.asked.now history) search.asked.now.query.now.tables l) (sym begun.lent_is)
+        (subst (λ (a : AskedThen). AreThoseOf (front_of a history) a.query.now.tables lent) (sym begun.asked_is) (lends.are_those (front_of asked history) its.tables_are));
+    rules_are = begun.rules_are history its.book
+        ∙ (λ i. rules_at (front_of (sym begun.asked_is i) history) (asker_context (asker_of (sym begun.asked_is i))) (sym begun.lent_is i).schemas);
+  }
+
+  -- what a search adds is what the query adds
+  pub adds_query : (old new : List Access) → AddsAll search old new → AddsQuery asked tables old new
+  adds_query old new adds = λ history its.
+      subst (λ (a : AskedThen). new ≡ old ++ query_accesses (front_of a history) (asker_of a) a.patient a.query.now) begun.asked_is (adds history (search_of history its))
+
+-- a query whose tables do not all exist was not asked over them
+pub not_lent : (asked : AskedThen) (tables : Tables) (accesses : List Access) → LendsTables tables asked.query.now.tables None → AddsQuery asked tables accesses accesses
+not_lent asked tables accesses none = λ history its.
+    absurd (false≢true (sym (none (front_of asked history) its.tables_are) ∙ its.created))

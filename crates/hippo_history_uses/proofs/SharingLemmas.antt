@@ -73,22 +73,25 @@ sets_are history names schemas is =
 
 module _ (search : Search) (place : Place) (audit : Audit) (alone : IsAlone search place audit) (set : KeyedRows) (at : slice_get search.lent.sets place ≡ Some set) where
   abbrev query : Query
-  query = search.asked.query.now
+  query = search.asked.now.query.now
 
-  pub same_rows : HaveSameRows query.tables search.lent.sets audit.tables (set ∷ [])
-  same_rows =
+  alone_same : HaveSameRows query.tables search.lent.sets audit.tables (set ∷ [])
+  alone_same =
       subst (λ (tables : List Name). HaveSameRows query.tables search.lent.sets tables (set ∷ [])) (sym alone.tables)
       (same_here query.tables search.lent.sets place (table_there search place) set alone.seat.first at)
+
+  pub same_rows : (sets : List KeyedRows) → sets ≡ set ∷ [] → HaveSameRows query.tables search.lent.sets audit.tables sets
+  same_rows sets is = subst (λ (s : List KeyedRows). HaveSameRows query.tables search.lent.sets audit.tables s) (sym is) alone_same
 
   pub distinct : IsDistinct bytes_eq audit.tables
   distinct = subst (λ (tables : List Name). IsDistinct bytes_eq tables) (sym alone.tables) (one_distinct (table_there search place))
 
-  pub one_set : length (set ∷ []) ≡ length audit.tables
-  one_set = sym (ap (λ (tables : List Name). length tables) alone.tables)
+  pub one_set : (sets : List KeyedRows) → sets ≡ set ∷ [] → length sets ≡ length audit.tables
+  one_set sets is = ap (λ (s : List KeyedRows). length s) is ∙ sym (ap (λ (tables : List Name). length tables) alone.tables)
 
   module _ (history : History) (its : IsSearchOf search history) where
     abbrev front : History
-    front = front_of search.asked history
+    front = front_of search.asked.now history
 
     set_is : set ≡ set_by front (schema_at front (table_there search place))
     set_is =
@@ -96,20 +99,20 @@ module _ (search : Search) (place : Place) (audit : Audit) (alone : IsAlone sear
         ∙ ap (λ (sets : List KeyedRows). get_or sets place no_set) (its.tables.sets ∙ sets_are front query.tables search.lent.schemas its.tables.schemas)
         ∙ get_or-map (λ (name : Name). set_by front (schema_at front name)) query.tables place [] no_set alone.seat.within
 
-    pub are_of : (choices : Choices) → ((subject : ℤ) (item : Name) → choices subject item ≡ choice_at front subject item) → AreOfHistory meaning front (asker_context (asker_of search.asked)) query audit search.rules search.lent.sets (set ∷ []) choices
-    are_of choices choices_are = record {
+    pub are_of : (sets : List KeyedRows) → sets ≡ set ∷ [] → (choices : Choices) → ((subject : ℤ) (item : Name) → choices subject item ≡ choice_at front subject item) → AreOfHistory meaning front (asker_context (asker_of search.asked.now)) query audit search.rules search.lent.sets sets choices
+    are_of sets is choices choices_are = record {
       schemas = search.lent.schemas;
       tables = record { valid = its.valid; schemas_are = its.tables.schemas };
       columns = subst (λ (columns : List Ref). AllByRecursion (IsCommon front query audit) columns) (sym alone.columns) tt;
       rules_are = its.rules_are;
       query_rows = its.tables.sets ∙ sets_are front query.tables search.lent.schemas its.tables.schemas;
-      audit_rows = (λ i. set_is i ∷ []) ∙ sym (ap (sets_at front) alone.tables);
+      audit_rows = is ∙ (λ i. set_is i ∷ []) ∙ sym (ap (sets_at front) alone.tables);
       choices_are = λ i subject item. choices_are subject item i;
     }
 
   -- the tuple that is found says whether one is shared
-  pub shares_found : (choices : Choices) (found : Option (List SharedRow))
-      → ((history : History) → IsSearchOf search history → (subject : ℤ) (item : Name) → choices subject item ≡ choice_at (front_of search.asked history) subject item)
-      → ServesFirst query audit search.rules search.lent.sets (set ∷ []) choices found → SharesThen search audit (is_some found)
-  shares_found choices found choices_are serves = λ history its.
-      ap is_some (serves meaning (front_of search.asked history) (asker_context (asker_of search.asked)) (are_of history its choices (choices_are history its)))
+  pub shares_found : (sets : List KeyedRows) → sets ≡ set ∷ [] → (choices : Choices) (found : Option (List SharedRow))
+      → ((history : History) → IsSearchOf search history → (subject : ℤ) (item : Name) → choices subject item ≡ choice_at (front_of search.asked.now history) subject item)
+      → ServesFirst query audit search.rules search.lent.sets sets choices found → SharesThen search audit (is_some found)
+  shares_found sets is choices found choices_are serves = λ history its.
+      ap is_some (serves meaning (front_of search.asked.now history) (asker_context (asker_of search.asked.now)) (are_of history its sets is choices (choices_are history its)))

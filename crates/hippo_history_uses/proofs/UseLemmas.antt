@@ -110,11 +110,8 @@ module _ (law : AuditNeedsWhatItHas) (history : History) (context : Context) (qu
       ∙ (λ i. list_any (λ kept. shared_is kept i) rows)
 
   first_part : (a b : Bool) → b ≡ true → (a && b && true) ≡ false → a ≡ false
-  first_part a b holds none = rw holds at none by_cases a none
-    where
-      by_cases : (a : Bool) → (a && true && true) ≡ false → a ≡ false
-      by_cases true none = none
-      by_cases false none = refl
+  first_part false b holds none = refl
+  first_part true b holds none = absurd (false≢true (sym none ∙ ap (λ x. x && true) holds))
 
   -- if nothing is shared, the query did not use a row of which the condition is true
   pub not_used : is_some found ≡ false → (place : Place) (kept : BornRow) → slice_get rows place ≡ Some kept → passes condition (all_shown (kept ∷ [])) ≡ true → uses_row history context query schema kept ≡ false
@@ -135,8 +132,8 @@ module _ (law : AuditNeedsWhatItHas) (history : History) (context : Context) (qu
   pub some_used : is_some found ≡ true → IsUsed
   some_used some =
       let kept = who is_shared rows (sym shares_is ∙ some) in
-      let parts = and_parts _ _ kept.passes in
-      let row = who (has_row kept.member) rows (and_parts _ _ parts.1).0 in
+      let parts = and_parts (uses_row history context query schema kept.member) (list_any (has_row kept.member) rows) (and_parts _ _ kept.passes).0 in
+      let row = who (has_row kept.member) rows parts.1 in
       let both = and_parts _ _ row.passes in
       record {
         kept = kept.member;

@@ -1,5 +1,5 @@
 -- The accesses to a patient's rows, gathered entry by entry.
-use Rattle.std.specs.Prelude.{◌≡◌, ◌-◌, ℤ, Bool, false, List, [], ◌∷◌, ◌++◌, Option, None, Some}
+use Rattle.std.specs.Prelude.{◌≡◌, ◌-◌, ℤ, Bool, true, [], ◌∷◌, ◌++◌, Option, None, Some, if◌then◌else◌}
 use Rattle.hippo_values.specs.Texts.{Txt}
 use Rattle.hippo_model.specs.declared.entry.Act.{Act}
 use Rattle.hippo_model.specs.declared.entry.Act.TheVariants.{Asked}
@@ -50,25 +50,28 @@ pub record ComesAfter (past : Past) (entry : Entry) (history read later : Histor
   pub past_is : IsPastOf past history
   pub whole : history ≡ read ++ entry ∷ later
 
--- the accesses of an entry are added, and the tables stay
-pub record AddsAccesses (history : History) (entry : Entry) (old new : Disclosures) : Type 0 where
+-- the accesses of an entry are added if it counts
+pub record AddsAccesses (history : History) (entry : Entry) (counts : Bool) (old new : Disclosures)
+    : Type 0 where
   pub same_patient : new.patient ≡ old.patient
-  pub accesses_are : new.accesses ≡ old.accesses ++ entry_accesses history old.patient entry
+  pub accesses_are : new.accesses
+      ≡ old.accesses ++ (if counts then entry_accesses history old.patient entry else [])
 
-abbrev pub Discloses : Past → Entry → Disclosures → Disclosures → Type 0
-Discloses past entry old new =
+-- the accesses of the next entry are added if it counts, and the tables stay
+abbrev pub Discloses : Past → Entry → Bool → Disclosures → Disclosures → Type 0
+Discloses past entry counts old new =
     (history read later : History) → ComesAfter past entry history read later
     → TablesStandFor old.tables read
-    → AddsAccesses history entry old new × TablesStandFor new.tables read
+    → AddsAccesses history entry counts old new × TablesStandFor new.tables read
 
--- the same, if the text of the entry means this query
+-- the same, if the entry counts and its text means this query
 abbrev pub DisclosesMeant : Past → Entry → Query → Disclosures → Disclosures → Type 0
 DisclosesMeant past entry query old new =
     (history read later : History) → ComesAfter past entry history read later
     → TablesStandFor old.tables read
     → ((text : Txt) → text_asked entry.act ≡ Some text
     → meaning (before_entry entry history) text ≡ Some query)
-    → AddsAccesses history entry old new × TablesStandFor new.tables read
+    → AddsAccesses history entry true old new × TablesStandFor new.tables read
 
 -- the next entry is taken in; `within` is whether it passes the test
 abbrev pub TakesIn : Past → Entry → Bool → Disclosures → Disclosures → Type 0

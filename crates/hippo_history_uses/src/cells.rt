@@ -1,5 +1,5 @@
 //! Which values of a row a query saw, and which were denied to it.
-ghost use Rattle.std.specs.Prelude.{◌≡◌, ◌&&◌, not, slice_index_or, IfOk};
+ghost use Rattle.std.specs.Prelude.{◌≡◌, [], slice_index_or, IfOk};
 ghost use Rattle.hippo_model.specs.Columns.{named_column, same_column};
 ghost use Rattle.hippo_history_uses.specs.Cells.{names_column, answers_column, tests_column, is_in_part, seen_by, denied_by};
 

@@ -43,7 +43,6 @@ fn column_is(alloc: Global, column: usize, value: &Value) -> Result<CondOf<Opera
     }
 }
 
-
 /// That the columns of a table's key have the values of a row.
 pub(crate) fn key_is(
     alloc: Global,
@@ -61,13 +60,13 @@ pub(crate) fn key_is(
 }
 
 /// That a column has a number.
-pub(crate) fn number_is(column: usize, number: i64) -> CondOf<Operand>
-    ensures { result ≡ column_is column (IntValue number) }
+pub(crate) fn number_is(column: usize, number: &i64) -> CondOf<Operand>
+    ensures { result ≡ column_is column (IntValue number.now) }
 {
     CondOf::Compare {
         op: CompareOp::Eq,
         left: Operand::Column(own_column(column)),
-        right: Operand::Literal(Value::Int(number)),
+        right: Operand::Literal(Value::Int(*number)),
     }
 }
 

@@ -37,9 +37,9 @@ fn asked_then<'a>(
     past: &Past<'a>,
     entry: &'a Entry,
     query: &'a Query,
-    patient: i64,
+    patient: &i64,
 ) -> Option<AskedThen<'a>>
-    ensures { IsAskedBy past.now entry query patient result }
+    ensures { IsAskedBy past.now entry.now query.now patient.now result }
 {
     match &entry.act {
         Act::Asked {
@@ -56,16 +56,15 @@ fn asked_then<'a>(
             purpose,
             recipient,
             query,
-            patient,
+            patient: *patient,
         }),
         _ => None,
     }
 }
 
 impl Disclosures {
-    ghost use Rattle.std.specs.Prelude.{◌≡◌, [], OnOk};
+    ghost use Rattle.std.specs.Prelude.{◌≡◌, [], Bool, true, OnOk};
     ghost use Rattle.hippo_model.specs.Terms.{History};
-    ghost use Rattle.hippo_tables.specs.Standing.{TablesStandFor};
     ghost use Rattle.hippo_model.specs.declared.entry.Entry.{Entry as HistoryEntry};
     ghost use Rattle.hippo_history_uses.specs.Disclosing.{AreDisclosed, Discloses, DisclosesMeant, TakesIn};
 
@@ -98,17 +97,17 @@ impl Disclosures {
     ) -> Result<(), Memory>
         ensures { OnOk result (DisclosesMeant past.now entry.now query.now self.old self.new) }
     {
-        let Some(asked) = asked_then(past, entry, query, self.patient) else {
+        let Some(asked) = asked_then(past, entry, query, &self.patient) else {
             return Ok(());
         };
-        order_for(&mut self.tables, alloc, query, self.patient)?;
+        order_for(&mut self.tables, alloc, query, &self.patient)?;
         add_accesses(alloc, &asked, &self.tables, &mut self.accesses)?;
         Ok(())
     }
 
     // Adds the accesses of an entry.
     fn add_entry(&mut self, alloc: Global, past: &Past<'_>, entry: &Entry) -> Result<(), Memory>
-        ensures { OnOk result (Discloses past.now entry.now self.old self.new) }
+        ensures { OnOk result (Discloses past.now entry.now true self.old self.new) }
     {
         let Some(text) = text_asked(&entry.act) else {
             return Ok(());
@@ -124,6 +123,23 @@ impl Disclosures {
         }
     }
 
+    // Adds the accesses of an entry, if it counts.
+    fn add_if(
+        &mut self,
+        alloc: Global,
+        past: &Past<'_>,
+        entry: &Entry,
+        counts: bool,
+    ) -> Result<(), Memory>
+        ensures { OnOk result (Discloses past.now entry.now counts self.old self.new) }
+    {
+        if !counts {
+            return Ok(());
+        }
+        self.add_entry(alloc, past, entry)?;
+        Ok(())
+    }
+
     /// Takes in the next entry: adds its accesses, if it is `within` the stretch that is asked for,
     /// and brings the tables forward. `past` is what is known of the whole history. Fails when out
     /// of memory.
@@ -136,9 +152,7 @@ impl Disclosures {
     ) -> Result<(), Memory>
         ensures { OnOk result (TakesIn past.now entry.now within self.old self.new) }
     {
-        if within {
-            self.add_entry(alloc, past, entry)?;
-        }
+        self.add_if(alloc, past, entry, within)?;
         self.tables.apply(alloc, entry)?;
         Ok(())
     }

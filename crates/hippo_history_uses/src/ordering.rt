@@ -8,7 +8,7 @@ use hippo_values::{Duplicate, Memory, Name, Sequence};
 use std::alloc::Global;
 
 // A query of a table's rows with a number in a column.
-fn rows_with(alloc: Global, table: &Name, column: usize, number: i64) -> Result<Query, Memory> {
+fn rows_with(alloc: Global, table: &Name, column: usize, number: &i64) -> Result<Query, Memory> {
     let mut tables = Sequence::new(alloc);
     tables.push(table.copy(alloc)?)?;
     Ok(Query {
@@ -24,7 +24,7 @@ fn order_by_subject(
     tables: &mut Tables,
     alloc: Global,
     table: &Name,
-    patient: i64,
+    patient: &i64,
 ) -> Result<(), Memory>
     ensures { TablesAreAsBefore tables.old tables.new }
 {
@@ -45,7 +45,7 @@ fn order_by_subjects(
     tables: &mut Tables,
     alloc: Global,
     names: &[Name],
-    patient: i64,
+    patient: &i64,
 ) -> Result<(), Memory>
     ensures { TablesAreAsBefore tables.old tables.new }
 {
@@ -61,7 +61,7 @@ pub(crate) fn order_for(
     tables: &mut Tables,
     alloc: Global,
     query: &Query,
-    patient: i64,
+    patient: &i64,
 ) -> Result<(), Memory>
     ensures { TablesAreAsBefore tables.old tables.new }
 {

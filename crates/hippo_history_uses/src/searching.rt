@@ -1,6 +1,9 @@
 //! Searches the rows about a patient that a logged query used.
 ghost use Rattle.std.specs.Prelude.{◌≡◌, [], OnOk, IfOk};
+ghost use Rattle.hippo_history_uses.specs.Accesses.{asker_context};
+ghost use Rattle.hippo_history_uses.specs.Asking.{asker_of, Then};
 ghost use Rattle.hippo_history_uses.specs.Searching.{AddsQuery};
+ghost use Rattle.hippo_rewrite.specs.RewritingLaws.{rules_at};
 
 use crate::asked::AskedThen;
 use crate::cells::UsedRow;
@@ -9,8 +12,9 @@ use crate::lending::{LentTables, lent_tables};
 use crate::uses::is_about;
 use hippo_audit_common::place_in;
 use hippo_audit_needs::shared_of;
+use hippo_audit_search::laws::audit_needs_what_it_has;
 use hippo_history_formats::Access;
-use hippo_model::{Audit, BornRow, CondOf, Lent, Operand, RulesInForce, Schema};
+use hippo_model::{Audit, BornRow, CondOf, Lent, LentSchemas, Operand, RulesInForce, Schema};
 use hippo_tables::Tables;
 use hippo_values::{Memory, Sequence};
 use std::alloc::Global;
@@ -18,13 +22,15 @@ use std::alloc::Global;
 /// A logged query, with the tables and the rules in force of its own time.
 #[derive(Drop)]
 pub(crate) struct Search<'a> {
-    pub asked: AskedThen<'a>,
+    pub asked: &'a AskedThen<'a>,
     pub lent: LentTables<'a>,
     pub rules: RulesInForce,
 }
 
 fn used_row<'a>(asked: &'a AskedThen<'a>, schema: &'a Schema, kept: &'a BornRow) -> UsedRow<'a>
-    ensures { result ≡ record { asked = asked; schema = schema; kept = kept } }
+    ensures asked { result.asked.now ≡ asked.now }
+    ensures schema { result.schema.now ≡ schema.now }
+    ensures kept { result.kept.now ≡ kept.now }
 {
     UsedRow {
         asked,
@@ -34,8 +40,6 @@ fn used_row<'a>(asked: &'a AskedThen<'a>, schema: &'a Schema, kept: &'a BornRow)
 }
 
 impl<'a> Search<'a> {
-    ghost use Rattle.hippo_history_uses.specs.Accesses.{asker_context};
-    ghost use Rattle.hippo_history_uses.specs.Asking.{asker_of};
     ghost use Rattle.hippo_history_uses.specs.Conditions.{audit_of_rows};
     ghost use Rattle.hippo_history_uses.specs.Searching.{IsWhole, IsSeat, IsAlone, IsSubjectOf, SharesThen, UsesThen, UsesAny, AddsRow, AddsTable, AddsAll, table_there};
 
@@ -45,7 +49,7 @@ impl<'a> Search<'a> {
         requires alone { IsAlone self.now place audit.now }
         ensures { IfOk result (SharesThen self.now audit.now) }
     {
-        let asked = &self.asked;
+        let asked = self.asked;
         let mut audit_sets = Lent::new(alloc);
         audit_sets.push(self.lent.sets.get(place))?;
         let choices = asked.book.choices_at(asked.number);
@@ -70,7 +74,7 @@ impl<'a> Search<'a> {
     ) -> Result<Audit, Memory>
         requires seat { IsSeat self.now place }
         ensures { IfOk result (λ audit. audit ≡ audit_of_rows (table_there self.now place)
-            self.now.asked.moment [] condition) }
+            self.now.asked.now.moment [] condition) }
     {
         let table = self.asked.query.tables.get(place);
         audit_of_rows(
@@ -88,6 +92,7 @@ impl<'a> Search<'a> {
         requires seat { IsSeat self.now place }
         ensures { IfOk result (UsesThen self.now place kept.now) }
     {
+        audit_needs_what_it_has();
         let schema = self.lent.schemas.get(place);
         let condition = key_is(alloc, schema, kept.row.as_slice())?;
         let audit = self.audit_of(alloc, place, condition)?;
@@ -104,7 +109,8 @@ impl<'a> Search<'a> {
         requires subject { IsSubjectOf self.now place subject }
         ensures { IfOk result (UsesAny self.now place) }
     {
-        let condition = number_is(subject, self.asked.patient);
+        audit_needs_what_it_has();
+        let condition = number_is(subject, &self.asked.patient);
         let audit = self.audit_of(alloc, place, condition)?;
         let used = self.shares(alloc, place, &audit);
         drop(audit);
@@ -131,7 +137,7 @@ impl<'a> Search<'a> {
         if !self.uses_row(alloc, place, kept)? {
             return Ok(());
         }
-        let access = used_row(&self.asked, schema, kept).access(alloc)?;
+        let access = used_row(self.asked, schema, kept).access(alloc)?;
         accesses.push(access)?;
         Ok(())
     }
@@ -194,11 +200,38 @@ impl<'a> Search<'a> {
     }
 }
 
-/// Adds the accesses of a logged query over the tables as they were before it.
-pub(crate) fn add_accesses(
+// The rules in force of some tables at the query's time.
+fn rules_then(
     alloc: Global,
     asked: &AskedThen<'_>,
-    tables: &Tables,
+    schemas: &LentSchemas<'_>,
+) -> Result<RulesInForce, Memory>
+    ensures { IfOk result (λ rules. Then asked.now (λ front. rules
+        ≡ rules_at front (asker_context (asker_of asked.now)) schemas.now)) }
+{
+    asked.book.rules_in_force(
+        alloc,
+        asked.number,
+        asked.moment,
+        asked.purpose,
+        asked.recipient,
+        schemas,
+    )
+}
+
+fn search_of<'a>(asked: &'a AskedThen<'a>, lent: LentTables<'a>, rules: RulesInForce) -> Search<'a>
+    ensures asked { result.asked.now ≡ asked.now }
+    ensures lent { result.lent ≡ lent.entry }
+    ensures rules { result.rules ≡ rules }
+{
+    Search { asked, lent, rules }
+}
+
+/// Adds the accesses of a logged query over the tables as they were before it.
+pub(crate) fn add_accesses<'a>(
+    alloc: Global,
+    asked: &'a AskedThen<'a>,
+    tables: &'a Tables,
     accesses: &mut Sequence<Access>,
 ) -> Result<(), Memory>
     ensures { OnOk result (AddsQuery asked.now tables.now accesses.old accesses.new) }
@@ -207,19 +240,8 @@ pub(crate) fn add_accesses(
     let Some(lent) = found else {
         return Ok(());
     };
-    let rules = asked.book.rules_in_force(
-        alloc,
-        asked.number,
-        asked.moment,
-        asked.purpose,
-        asked.recipient,
-        &lent.schemas,
-    )?;
-    let search = Search {
-        asked: *asked,
-        lent,
-        rules,
-    };
+    let rules = rules_then(alloc, asked, &lent.schemas)?;
+    let search = search_of(asked, lent, rules);
     let added = search.add_all(alloc, accesses);
     drop(search);
     added
