@@ -1,0 +1,6 @@
+mod AddLemmas
+mod DecideLemmas
+mod LeaveLemmas
+pub mod LeftLemmas
+mod CarryExamples
+pub mod WordLemmas

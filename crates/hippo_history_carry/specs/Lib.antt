@@ -1,0 +1,4 @@
+pub mod Carrying
+pub mod Decisions
+pub mod Leaving
+pub mod CarryLaws
