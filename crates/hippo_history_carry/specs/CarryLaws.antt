@@ -1,12 +1,10 @@
 -- The history that is carried on has the same present as the old one.
-use Rattle.std.specs.Prelude.{◌≡◌, ℕ, ℤ, Bool, true, Option, Some, None, option_map}
+use Rattle.std.specs.Prelude.{◌≡◌, ℤ, option_map}
 use Rattle.hippo_values.specs.declared.names.Name.{Name}
-use Rattle.hippo_model.specs.declared.schema.Schema.{Schema}
 use Rattle.hippo_model.specs.Histories.{schema_at, item_at}
-use Rattle.hippo_model.specs.Rows.{born_row_at}
 use Rattle.hippo_model.specs.Rules.{Rule, allowed, revoked, rule_at, choice_at, authorized_at}
-use Rattle.hippo_model.specs.Terms.{History, Key, Meaning, Place}
-use Rattle.hippo_model.specs.Validity.{is_purpose, is_recipient, is_valid, is_authorized}
+use Rattle.hippo_model.specs.Terms.{History, Place}
+use Rattle.hippo_model.specs.Validity.{is_purpose, is_recipient, is_authorized}
 use Rattle.hippo_history_carry.specs.Carrying.{carried}
 
 -- the same tables, items, purposes and recipients
@@ -41,16 +39,3 @@ CarriesRules =
     (history : History) (purpose recipient table : Name) (column : Place)
     → option_map without_number (rule_at (carried history) purpose recipient table column)
     ≡ option_map without_number (rule_at history purpose recipient table column)
-
--- the same rows with the same births, if the history is valid
-abbrev pub CarriesRows : Type 0
-CarriesRows =
-    (meaning : Meaning) (history : History) (schema : Schema) (key : Key)
-    → is_valid meaning history ≡ true → schema_at history schema.name ≡ Some schema
-    → born_row_at schema (carried history) key ≡ born_row_at schema history key
-
--- the history that is carried on is valid, if the old one is
-abbrev pub CarriedIsValid : Type 0
-CarriedIsValid =
-    (meaning : Meaning) (history : History) → is_valid meaning history ≡ true
-    → is_valid meaning (carried history) ≡ true
