@@ -12,7 +12,7 @@ use Rattle.hippo_replay.specs.declared.state.State.{State}
 use Rattle.hippo_program_args.specs.declared.endings.Ending.{Ending}
 use Rattle.hippo_program_args.specs.declared.endings.Ending.TheVariants.{Served}
 use Rattle.hippo_history_formats.specs.declared.access.Access.{Access}
-use Rattle.hippo_history_uses.specs.Disclosing.{AreDisclosed, TakesIn}
+use Rattle.hippo_history_uses.specs.Disclosing.{AreDisclosed, TakesInEntry}
 use Rattle.hippo_history_uses.specs.declared.disclosing.Disclosures.{Disclosures}
 use Rattle.hippo_history_top.specs.declared.asking.Inquiry.{Inquiry}
 use Rattle.hippo_history_top.specs.declared.asking.View.TheVariants.{Patient}
@@ -26,7 +26,7 @@ use Rattle.hippo_history_top.proofs.GatheredLemmas.{gathered_page}
 use Rattle.hippo_history_top.proofs.PageLemmas.{page_written}
 
 -- one more entry was taken in
-pub found-more : (sought : Sought) (entry : Entry) (within : Bool) (old new : Disclosures) → within ≡ is_inquired sought.inquiry.now entry → TakesIn sought.past entry within old new
+pub found-more : (sought : Sought) (entry : Entry) (within : Bool) (old new : Disclosures) → within ≡ is_inquired sought.inquiry.now entry → TakesInEntry sought.past entry within old new
     → (read : History) → FindsAccesses sought old read → FindsAccesses sought new (read ++ entry ∷ [])
 found-more sought entry within old new is takes read so history later past whole =
     let longer : history ≡ read ++ entry ∷ later = whole ∙ append_assoc read (entry ∷ []) later in

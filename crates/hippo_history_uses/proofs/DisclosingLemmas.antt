@@ -1,9 +1,9 @@
 -- One more entry: its accesses, and the tables after it.
-use Rattle.std.proofs.Common.{◌≡◌, ◌∙◌, sym, ap, refl, subst, ℕ, ℤ, ◌+◌, ◌-◌, Bool, true, false, cond, List, [], ◌∷◌, ◌++◌, map, filter, length, take, Option, None, Some, append_assoc, append-nil, arith}
+use Rattle.std.proofs.Common.{◌≡◌, ◌∙◌, sym, ap, refl, subst, ℕ, ℤ, Bool, true, false, cond, List, [], ◌∷◌, ◌++◌, filter, length, take, None, Some, append_assoc, append-nil}
 use Rattle.std.specs.Prelude.{◌&&◌, is_some, slice_get, flat_map, if◌then◌else◌}
-use Rattle.std.specs.List.{AllByRecursion, list_all}
+use Rattle.std.specs.List.{AllByRecursion}
 use Rattle.std.specs.Option.{option_map_or}
-use Rattle.std.proofs.lemmas.Bool.{and_parts, and_from, false≢true}
+use Rattle.std.proofs.lemmas.Bool.{and_parts, and_from}
 use Rattle.std.proofs.lemmas.Grind.{flat_map-append}
 use Rattle.std.proofs.lemmas.List.Elements.{filter-append}
 use Rattle.std.proofs.lemmas.Option.{none-some, same_Some}
@@ -32,7 +32,7 @@ use Rattle.hippo_history_uses.specs.declared.asked.AskedThen.{AskedThen}
 use Rattle.hippo_history_uses.specs.declared.disclosing.Disclosures.{Disclosures}
 use Rattle.hippo_history_uses.specs.Accesses.{entry_accesses, act_accesses, accesses_in, query_accesses}
 use Rattle.hippo_history_uses.specs.Asking.{asker_of, front_of}
-use Rattle.hippo_history_uses.specs.Disclosing.{text_asked, IsAskedAs, IsAskedBy, AreDisclosed, ComesAfter, AddsAccesses, Discloses, DisclosesMeant, TakesIn}
+use Rattle.hippo_history_uses.specs.Disclosing.{text_asked, IsAskedAs, ComesAfter, Discloses, DisclosesMeant, TakesInEntry}
 use Rattle.hippo_history_uses.specs.Searching.{IsAskedOver, AddsQuery}
 
 -- tables that are the same as before stand for the same history
@@ -206,7 +206,7 @@ in_one_more patient test history read entry =
     one true = append-nil (entry_accesses history patient entry)
     one false = refl
 
-pub takes_in : (past : Past) (entry : Entry) (within : Bool) (old between new : Disclosures) → Discloses past entry within old between → new.patient ≡ between.patient → new.accesses ≡ between.accesses → TablesAdd between.tables new.tables entry → TakesIn past entry within old new
+pub takes_in : (past : Past) (entry : Entry) (within : Bool) (old between new : Disclosures) → Discloses past entry within old between → new.patient ≡ between.patient → new.accesses ≡ between.accesses → TablesAdd between.tables new.tables entry → TakesInEntry past entry within old new
 takes_in past entry within old between new discloses patient_same accesses_same adds = λ patient test history read later same comes its.
     let both = discloses history read later comes its.tables_are in
     record {

@@ -1,5 +1,5 @@
 -- When all tables were gone through, each is lent.
-use Rattle.std.proofs.Common.{◌≡◌, ◌∙◌, sym, ap, refl, subst, ℕ, true, List, [], ◌∷◌, ◌++◌, map, drop, length, Some, append-nil}
+use Rattle.std.proofs.Common.{◌≡◌, ◌∙◌, sym, ap, refl, ℕ, List, [], ◌∷◌, ◌++◌, map, drop, length, Some, append-nil}
 use Rattle.hippo_values.specs.declared.names.Name.{Name}
 use Rattle.hippo_model.specs.Terms.{History}
 use Rattle.hippo_tables_keyed.specs.RowSets.{kept_at}

@@ -5,3 +5,4 @@ pub mod LendingLemmas
 pub mod SharingLemmas
 pub mod SearchLemmas
 pub mod DisclosingLemmas
+mod UsesExamples

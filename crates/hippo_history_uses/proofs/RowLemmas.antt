@@ -1,5 +1,5 @@
 -- Tests of the members of a list, by their places.
-use Rattle.std.proofs.Common.{◌≡◌, ◌∙◌, sym, ap, refl, subst, zero, suc, Bool, true, false, cond, List, [], ◌∷◌, map, filter, Option, None, Some}
+use Rattle.std.proofs.Common.{◌≡◌, ◌∙◌, sym, ap, refl, zero, suc, Bool, true, false, cond, List, [], ◌∷◌, map, filter, Some}
 use Rattle.std.specs.Prelude.{◌||◌, find, is_some, slice_get}
 use Rattle.std.specs.List.{list_any}
 use Rattle.std.proofs.lemmas.Bool.{false≢true, or_left, or_right}

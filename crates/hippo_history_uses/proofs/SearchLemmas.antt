@@ -1,12 +1,12 @@
 -- The accesses to the rows of a table, and of all tables of a query.
 use Rattle.std.proofs.Common.{◌≡◌, ◌∙◌, sym, ap, refl, subst, ℕ, zero, suc, ◌<◌, ◌+◌, Bool, true, false, cond, List, [], ◌∷◌, ◌++◌, map, filter, length, drop, get_or, Option, None, Some, append_assoc, append-nil, arith}
 use Rattle.std.specs.Prelude.{◌&&◌, is_some, option_and_then, slice_get, slice_index_or, flat_map, bytes_eq}
-use Rattle.std.specs.List.{list_any, list_all}
+use Rattle.std.specs.List.{list_any}
 use Rattle.std.specs.Option.{option_map_or}
-use Rattle.std.proofs.lemmas.Bool.{and_parts, false≢true, or_left, or_right}
+use Rattle.std.proofs.lemmas.Bool.{false≢true, or_left, or_right}
 use Rattle.std.proofs.lemmas.List.{map-append, get_or-map}
 use Rattle.std.proofs.lemmas.List.Elements.{filter-append}
-use Rattle.std.proofs.lemmas.Option.{none-some, same_Some, slice_get_within, get_or_from_slice_get}
+use Rattle.std.proofs.lemmas.Option.{none-some, same_Some}
 use Rattle.std.proofs.lemmas.Slice.Eq.{bytes_eq-Decides}
 use Rattle.hippo_values.specs.declared.names.Name.{Name}
 use Rattle.hippo_values.specs.declared.values.Value.TheVariants.{Int}
@@ -38,8 +38,8 @@ use Rattle.hippo_history_uses.specs.Accesses.{asker_context, access_to, table_ac
 use Rattle.hippo_history_uses.specs.Asking.{asker_of, front_of}
 use Rattle.hippo_history_uses.specs.Conditions.{column_is, key_is, audit_of_rows}
 use Rattle.hippo_history_uses.specs.Lending.{AreThoseOf, LendsEach, LendsTables}
-use Rattle.hippo_history_uses.specs.Searching.{IsSearchOf, IsAskedOver, IsBegun, AddsQuery, IsWhole, IsSeat, IsAlone, IsSubjectOf, IsTableOf, SharesThen, UsesThen, UsesAny, AddsRow, AddsTable, AddsAll, rows_accesses, table_there}
-use Rattle.hippo_history_uses.specs.Uses.{is_about, uses_row, used_rows}
+use Rattle.hippo_history_uses.specs.Searching.{IsSearchOf, IsAskedOver, IsBegun, AddsQuery, HoldsEachTable, IsSeat, IsSubjectOf, IsTableOf, SharesThen, UsesThen, UsesAny, AddsTable, AddsAll, rows_accesses, table_there}
+use Rattle.hippo_history_uses.specs.Uses.{is_patients_row, uses_row, used_rows}
 use Rattle.hippo_history_uses.proofs.RowLemmas.{any_at}
 use Rattle.hippo_history_uses.proofs.SharingLemmas.{got}
 use Rattle.hippo_history_uses.proofs.UseLemmas.{uses-by_key, none-by_number, none-without}
@@ -120,7 +120,7 @@ module _ (search : Search) (front : History) (schema : Schema) where
   access kept = access_to front (asker_of search.asked.now) search.asked.now.query.now schema kept
 
   abbrev counts : BornRow → Bool
-  counts kept = is_about search.asked.now.patient schema kept && uses_row front (asker_context (asker_of search.asked.now)) search.asked.now.query.now schema kept
+  counts kept = is_patients_row search.asked.now.patient schema kept && uses_row front (asker_context (asker_of search.asked.now)) search.asked.now.query.now schema kept
 
   pub rows-append : (first rest : List BornRow) → rows_accesses search front schema (first ++ rest) ≡ rows_accesses search front schema first ++ rows_accesses search front schema rest
   rows-append first rest = ap (map access) (filter-append counts first rest) ∙ map-append access (filter counts first) (filter counts rest)
@@ -182,7 +182,7 @@ abbrev pub of_table : Search → History → Name → List Access
 of_table search history table =
     option_map_or (table_accesses (front_of search.asked.now history) (asker_of search.asked.now) search.asked.now.query.now search.asked.now.patient) (schema_at (front_of search.asked.now history) table) []
 
-module _ (search : Search) (whole : IsWhole search) (history : History) (its : IsSearchOf search history) where
+module _ (search : Search) (whole : HoldsEachTable search) (history : History) (its : IsSearchOf search history) where
   schema_in : (schemas : List Schema) (place : Place) → place < length schemas → ((schema : Schema) × (slice_get schemas place ≡ Some schema))
   schema_in [] place within = absurd (omega (arith, within))
   schema_in (schema ∷ rest) zero within = (schema, refl)
@@ -210,7 +210,7 @@ module _ (search : Search) (whole : IsWhole search) (history : History) (its : I
 
 -- ---- a query over its tables
 module _ (asked : AskedThen) (tables : Tables) (lent : LentTables) (search : Search) (lends : LendsEach tables asked.query.now.tables lent) (begun : IsBegun asked lent search) where
-  pub whole_of : IsWhole search
+  pub whole_of : HoldsEachTable search
   whole_of = record {
     schemas = (λ i. length (begun.lent_is i).schemas) ∙ lends.schemas_many ∙ sym (λ i. length (begun.asked_is i).query.now.tables);
     sets = (λ i. length (begun.lent_is i).sets) ∙ lends.sets_many ∙ sym (λ i. length (begun.asked_is i).query.now.tables);

@@ -1,18 +1,16 @@
 -- What an audit of a table's rows shares with a query says which of the rows the query used.
-use Rattle.std.proofs.Common.{◌≡◌, ◌∙◌, sym, ap, refl, subst, ℤ, Bool, true, false, not, cond, List, [], ◌∷◌, ◌++◌, map, filter, Option, None, Some}
-use Rattle.std.specs.Prelude.{◌&&◌, ◌||◌, find, is_some, option_and_then, slice_get, flat_map, bytes_eq}
+use Rattle.std.proofs.Common.{◌≡◌, ◌∙◌, sym, ap, refl, ℤ, Bool, true, false, cond, List, [], ◌∷◌, map, Option, None, Some}
+use Rattle.std.specs.Prelude.{◌&&◌, ◌||◌, is_some, option_and_then, slice_get, flat_map, bytes_eq}
 use Rattle.std.specs.Cmp.{tied_itself}
-use Rattle.std.specs.List.{AllByRecursion, list_any}
+use Rattle.std.specs.List.{list_any}
 use Rattle.std.specs.Option.{option_map_or}
 use Rattle.std.specs.Ordering.{is_eq, int_eq}
 use Rattle.std.proofs.lemmas.Bool.{and_parts, and_from, false≢true}
 use Rattle.std.proofs.lemmas.Bool.Decides.{Decides-int_eq}
-use Rattle.std.proofs.lemmas.Slice.Eq.{bytes_eq-Decides}
 use Rattle.hippo_values.specs.declared.moments.Moment.{Moment}
-use Rattle.hippo_values.specs.declared.names.Name.{Name}
 use Rattle.hippo_values.specs.declared.values.Value.{Value}
 use Rattle.hippo_values.specs.declared.values.Value.TheVariants.{Null, Int, Text, Day}
-use Rattle.hippo_values.specs.Order.{cells_cmp, same_cells}
+use Rattle.hippo_values.specs.Order.{same_cells}
 use Rattle.hippo_model.specs.declared.audit.Audit.{Audit}
 use Rattle.hippo_model.specs.declared.audit.SharedRow.{SharedRow}
 use Rattle.hippo_model.specs.declared.born_row.BornRow.{BornRow}
@@ -21,22 +19,21 @@ use Rattle.hippo_model.specs.declared.query.Operand.{Operand}
 use Rattle.hippo_model.specs.declared.query.Query.{Query}
 use Rattle.hippo_model.specs.declared.schema.Schema.{Schema}
 use Rattle.hippo_model.specs.Answers.{product, passes}
-use Rattle.hippo_model.specs.Audits.{common, shared_rows, virtual_tuples, query_needs, audit_needs, serves, first_serving}
+use Rattle.hippo_model.specs.Audits.{common, virtual_tuples, query_needs, audit_needs, serves, first_serving}
 use Rattle.hippo_model.specs.Histories.{schema_at}
 use Rattle.hippo_model.specs.Rows.{cell_at, key_of, table_rows}
 use Rattle.hippo_model.specs.Terms.{History, Key, Place}
-use Rattle.hippo_model.specs.Verdicts.{Context, number_in, subject_of}
-use Rattle.hippo_tables_keyed.specs.RowSets.{KeyedRows, kept_at, key_in}
+use Rattle.hippo_model.specs.Verdicts.{Context, number_in}
+use Rattle.hippo_tables_keyed.specs.RowSets.{KeyedRows, kept_at}
 use Rattle.hippo_tables_keyed.proofs.Orders.{cells_total, same_exact}
 use Rattle.hippo_eval.specs.Unmasked.{all_shown}
-use Rattle.hippo_eval.specs.Walks.{rows_of}
-use Rattle.hippo_audit_search.specs.Sharing.{audit_has, has_tuple_in, shared_key_in}
-use Rattle.hippo_audit_search.specs.HistoryLaws.{sets_at, AuditNeedsWhatItHas}
+use Rattle.hippo_audit_search.specs.Sharing.{audit_has, has_tuple_in}
+use Rattle.hippo_audit_search.specs.HistoryLaws.{AuditNeedsWhatItHas}
 use Rattle.hippo_audit_search.proofs.CommonLemmas.{same_as_itself}
 use Rattle.hippo_history_uses.specs.Conditions.{column_is, key_is, audit_of_rows}
-use Rattle.hippo_history_uses.specs.Uses.{is_about, row_by_key, uses_row, used_rows}
+use Rattle.hippo_history_uses.specs.Uses.{is_patients_row, row_by_key, uses_row, used_rows}
 use Rattle.hippo_history_uses.proofs.ConditionLemmas.{same_value, same_itself, column-true, key_equal, key_itself}
-use Rattle.hippo_history_uses.proofs.RowLemmas.{found-any, any_at, none_at, Passes, who, filter-none, any-map}
+use Rattle.hippo_history_uses.proofs.RowLemmas.{found-any, any_at, none_at, who, filter-none, any-map}
 
 singles : {A B : Type 0} (f : A → B) (members : List A) → flat_map (λ member. map (λ others. member ∷ others) ([] ∷ [])) (map f members) ≡ map (λ member. f member ∷ []) members
 singles f [] = refl
@@ -173,8 +170,8 @@ module _ (law : AuditNeedsWhatItHas) (history : History) (context : Context) (qu
       → is_some (first_serving history context query (audit_of_rows schema.name moment [] (column_is subject (Int patient)))) ≡ false
       → used_rows history context query patient schema ≡ []
   none-by_number subject patient subject_is none =
-      filter-none (λ kept. is_about patient schema kept && uses_row history context query schema kept) (table_rows schema history)
-      (λ place kept at. unused (is_about patient schema kept) (uses_row history context query schema kept)
+      filter-none (λ kept. is_patients_row patient schema kept && uses_row history context query schema kept) (table_rows schema history)
+      (λ place kept at. unused (is_patients_row patient schema kept) (uses_row history context query schema kept)
       (λ about. not_used law history context query schema moment (column_is subject (Int patient)) there among none place kept at
       (column-true kept subject (Int patient)
       ∙ number_holds patient (cell_at kept.row subject)
@@ -183,5 +180,5 @@ module _ (law : AuditNeedsWhatItHas) (history : History) (context : Context) (qu
 -- a table without a SUBJECT has no rows about a patient
 pub none-without : (history : History) (context : Context) (query : Query) (patient : ℤ) (schema : Schema) → schema.subject ≡ None → used_rows history context query patient schema ≡ []
 none-without history context query patient schema none =
-    filter-none (λ kept. is_about patient schema kept && uses_row history context query schema kept) (table_rows schema history)
+    filter-none (λ kept. is_patients_row patient schema kept && uses_row history context query schema kept) (table_rows schema history)
     (λ place kept at. ap (λ about. about && uses_row history context query schema kept) (ap (λ found. option_map_or (int_eq patient) (option_and_then (λ place. number_in (cell_at kept.row place)) found) false) none))

@@ -1,5 +1,5 @@
 -- A logged query as its own time knew it.
-use Rattle.std.specs.Prelude.{◌≡◌, take}
+use Rattle.std.specs.Prelude.{take}
 use Rattle.hippo_model.specs.Terms.{History}
 use Rattle.hippo_policy.specs.Books.{BookRepresents}
 use Rattle.hippo_history_uses.specs.declared.asked.AskedThen.{AskedThen}

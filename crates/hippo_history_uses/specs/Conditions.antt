@@ -1,5 +1,5 @@
 -- Audits of one table that ask for a patient's rows, or for the row with a key.
-use Rattle.std.specs.Prelude.{ℤ, false, List, [], ◌∷◌, map}
+use Rattle.std.specs.Prelude.{false, List, [], ◌∷◌, map}
 use Rattle.hippo_values.specs.declared.moments.Moment.{Moment}
 use Rattle.hippo_values.specs.declared.names.Name.{Name}
 use Rattle.hippo_values.specs.declared.truths.CompareOp.TheVariants.{Eq}

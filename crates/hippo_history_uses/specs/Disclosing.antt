@@ -74,8 +74,8 @@ DisclosesMeant past entry query old new =
     → AddsAccesses history entry true old new × TablesStandFor new.tables read
 
 -- the next entry is taken in; `within` is whether it passes the test
-abbrev pub TakesIn : Past → Entry → Bool → Disclosures → Disclosures → Type 0
-TakesIn past entry within old new =
+abbrev pub TakesInEntry : Past → Entry → Bool → Disclosures → Disclosures → Type 0
+TakesInEntry past entry within old new =
     (patient : ℤ) (test : Entry → Bool) (history read later : History) → within ≡ test entry
     → ComesAfter past entry history read later
     → AreDisclosed patient test history read old

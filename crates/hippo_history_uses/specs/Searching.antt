@@ -1,5 +1,5 @@
 -- A logged query with what it was asked over: the tables and rules of its own time.
-use Rattle.std.specs.Prelude.{◌≡◌, ◌<◌, ℕ, true, List, [], ◌∷◌, ◌++◌, map, filter, length, take, slice_get, slice_index_or, Some, is_some, option_and_then, Bool, false, ◌&&◌}
+use Rattle.std.specs.Prelude.{◌≡◌, ◌<◌, true, List, [], ◌∷◌, ◌++◌, map, filter, length, slice_get, slice_index_or, Some, is_some, option_and_then, Bool, false, ◌&&◌}
 use Rattle.hippo_values.specs.declared.names.Name.{Name}
 use Rattle.hippo_model.specs.declared.audit.Audit.{Audit}
 use Rattle.hippo_model.specs.declared.born_row.BornRow.{BornRow}
@@ -21,7 +21,7 @@ use Rattle.hippo_history_uses.specs.declared.asked.AskedThen.{AskedThen}
 use Rattle.hippo_history_uses.specs.Accesses.{asker_context, access_to, table_accesses, query_accesses}
 use Rattle.hippo_history_uses.specs.Asking.{asker_of, front_of}
 use Rattle.hippo_history_uses.specs.Lending.{AreThoseOf}
-use Rattle.hippo_history_uses.specs.Uses.{is_about, uses_row, used_rows}
+use Rattle.hippo_history_uses.specs.Uses.{is_patients_row, uses_row, used_rows}
 
 -- the policy is that of a history, whose first entries, those before the query, are valid; the
 -- tables and rules are those of the first entries
@@ -42,7 +42,7 @@ pub record IsBegun (asked : AskedThen) (lent : LentTables) (search : Search) : T
       ≡ rules_at (front_of asked history) (asker_context (asker_of asked)) lent.schemas
 
 -- there is a schema and a set of rows for each table of the query
-pub record IsWhole (search : Search) : Type 0 where
+pub record HoldsEachTable (search : Search) : Type 0 where
   pub schemas : length search.lent.schemas ≡ length search.asked.now.query.now.tables
   pub sets : length search.lent.sets ≡ length search.asked.now.query.now.tables
 
@@ -101,7 +101,7 @@ rows_accesses search front schema rows =
     let asker = asker_of search.asked.now in
     let query = search.asked.now.query.now in
     map (access_to front asker query schema)
-    (filter (λ kept. is_about search.asked.now.patient schema kept
+    (filter (λ kept. is_patients_row search.asked.now.patient schema kept
     && uses_row front (asker_context asker) query schema kept) rows)
 
 -- the access to a row is added, if there is one

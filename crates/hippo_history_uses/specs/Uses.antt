@@ -13,8 +13,8 @@ use Rattle.hippo_model.specs.Terms.{History}
 use Rattle.hippo_model.specs.Verdicts.{Context, subject_of}
 
 -- whether a row is about the patient with this number
-abbrev pub is_about : ℤ → Schema → BornRow → Bool
-is_about patient schema kept = option_map_or (int_eq patient) (subject_of schema kept.row) false
+abbrev pub is_patients_row : ℤ → Schema → BornRow → Bool
+is_patients_row patient schema kept = option_map_or (int_eq patient) (subject_of schema kept.row) false
 
 -- a row, by its table and its key
 abbrev pub row_by_key : Schema → BornRow → SharedRow
@@ -28,5 +28,5 @@ uses_row history context query schema kept =
 -- the rows of a table that are about a patient and that a query used, in the order of their keys
 abbrev pub used_rows : History → Context → Query → ℤ → Schema → List BornRow
 used_rows history context query patient schema =
-    filter (λ kept. is_about patient schema kept && uses_row history context query schema kept)
+    filter (λ kept. is_patients_row patient schema kept && uses_row history context query schema kept)
     (table_rows schema history)

@@ -66,7 +66,7 @@ impl Disclosures {
     ghost use Rattle.std.specs.Prelude.{◌≡◌, [], Bool, true, OnOk};
     ghost use Rattle.hippo_model.specs.Terms.{History};
     ghost use Rattle.hippo_model.specs.declared.entry.Entry.{Entry as HistoryEntry};
-    ghost use Rattle.hippo_history_uses.specs.Disclosing.{AreDisclosed, Discloses, DisclosesMeant, TakesIn};
+    ghost use Rattle.hippo_history_uses.specs.Disclosing.{AreDisclosed, Discloses, DisclosesMeant, TakesInEntry};
 
     /// Nothing was read yet. Allocates nothing.
     pub fn new(alloc: Global, patient: i64) -> Disclosures
@@ -150,7 +150,7 @@ impl Disclosures {
         entry: &Entry,
         within: bool,
     ) -> Result<(), Memory>
-        ensures { OnOk result (TakesIn past.now entry.now within self.old self.new) }
+        ensures { OnOk result (TakesInEntry past.now entry.now within self.old self.new) }
     {
         self.add_if(alloc, past, entry, within)?;
         self.tables.apply(alloc, entry)?;

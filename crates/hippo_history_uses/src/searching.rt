@@ -9,7 +9,7 @@ use crate::asked::AskedThen;
 use crate::cells::UsedRow;
 use crate::conditions::{audit_of_rows, key_is, number_is};
 use crate::lending::{LentTables, lent_tables};
-use crate::uses::is_about;
+use crate::uses::is_patients_row;
 use hippo_audit_common::place_in;
 use hippo_audit_needs::shared_of;
 use hippo_audit_search::laws::audit_needs_what_it_has;
@@ -41,11 +41,11 @@ fn used_row<'a>(asked: &'a AskedThen<'a>, schema: &'a Schema, kept: &'a BornRow)
 
 impl<'a> Search<'a> {
     ghost use Rattle.hippo_history_uses.specs.Conditions.{audit_of_rows};
-    ghost use Rattle.hippo_history_uses.specs.Searching.{IsWhole, IsSeat, IsAlone, IsSubjectOf, SharesThen, UsesThen, UsesAny, AddsRow, AddsTable, AddsAll, table_there};
+    ghost use Rattle.hippo_history_uses.specs.Searching.{HoldsEachTable, IsSeat, IsAlone, IsSubjectOf, SharesThen, UsesThen, UsesAny, AddsRow, AddsTable, AddsAll, table_there};
 
     // Whether the query and an audit of the table at a place share a row.
     fn shares(&self, alloc: Global, place: usize, audit: &Audit) -> Result<bool, Memory>
-        requires whole { IsWhole self.now }
+        requires whole { HoldsEachTable self.now }
         requires alone { IsAlone self.now place audit.now }
         ensures { IfOk result (SharesThen self.now audit.now) }
     {
@@ -88,7 +88,7 @@ impl<'a> Search<'a> {
 
     // Whether the query used a row of the table at a place.
     fn uses_row(&self, alloc: Global, place: usize, kept: &BornRow) -> Result<bool, Memory>
-        requires whole { IsWhole self.now }
+        requires whole { HoldsEachTable self.now }
         requires seat { IsSeat self.now place }
         ensures { IfOk result (UsesThen self.now place kept.now) }
     {
@@ -104,7 +104,7 @@ impl<'a> Search<'a> {
     // Whether the query may have used a row about the patient in the table at a place, which has
     // this SUBJECT.
     fn uses_any(&self, alloc: Global, place: usize, subject: usize) -> Result<bool, Memory>
-        requires whole { IsWhole self.now }
+        requires whole { HoldsEachTable self.now }
         requires seat { IsSeat self.now place }
         requires subject { IsSubjectOf self.now place subject }
         ensures { IfOk result (UsesAny self.now place) }
@@ -126,12 +126,12 @@ impl<'a> Search<'a> {
         kept: &BornRow,
         accesses: &mut Sequence<Access>,
     ) -> Result<(), Memory>
-        requires whole { IsWhole self.now }
+        requires whole { HoldsEachTable self.now }
         requires seat { IsSeat self.now place }
         ensures { OnOk result (AddsRow self.now place kept.now accesses.old accesses.new) }
     {
         let schema = self.lent.schemas.get(place);
-        if !is_about(&self.asked.patient, schema, kept) {
+        if !is_patients_row(&self.asked.patient, schema, kept) {
             return Ok(());
         }
         if !self.uses_row(alloc, place, kept)? {
@@ -149,7 +149,7 @@ impl<'a> Search<'a> {
         place: usize,
         accesses: &mut Sequence<Access>,
     ) -> Result<(), Memory>
-        requires whole { IsWhole self.now }
+        requires whole { HoldsEachTable self.now }
         requires seat { IsSeat self.now place }
         ensures { OnOk result (AddsTable self.now place accesses.old accesses.new) }
     {
@@ -168,7 +168,7 @@ impl<'a> Search<'a> {
         place: usize,
         accesses: &mut Sequence<Access>,
     ) -> Result<(), Memory>
-        requires whole { IsWhole self.now }
+        requires whole { HoldsEachTable self.now }
         requires seat { IsSeat self.now place }
         ensures { OnOk result (AddsTable self.now place accesses.old accesses.new) }
     {
@@ -189,7 +189,7 @@ impl<'a> Search<'a> {
         alloc: Global,
         accesses: &mut Sequence<Access>,
     ) -> Result<(), Memory>
-        requires whole { IsWhole self.now }
+        requires whole { HoldsEachTable self.now }
         ensures { OnOk result (AddsAll self.now accesses.old accesses.new) }
     {
         let tables = self.asked.query.tables.as_slice();

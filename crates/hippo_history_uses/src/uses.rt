@@ -1,7 +1,7 @@
 //! Whether a row is about a patient.
 ghost use Rattle.std.specs.Prelude.{◌≡◌, option_copied};
 ghost use Rattle.hippo_model.specs.Verdicts.{subject_of};
-ghost use Rattle.hippo_history_uses.specs.Uses.{is_about};
+ghost use Rattle.hippo_history_uses.specs.Uses.{is_patients_row};
 
 use hippo_model::{BornRow, Cells, Schema};
 use hippo_values::Value;
@@ -17,8 +17,8 @@ fn subject_of<'a>(schema: &Schema, row: &'a Cells) -> Option<&'a i64>
 }
 
 /// Whether a row is about the patient with this number.
-pub(crate) fn is_about(patient: &i64, schema: &Schema, kept: &BornRow) -> bool
-    ensures { result ≡ is_about patient.now schema.now kept.now }
+pub(crate) fn is_patients_row(patient: &i64, schema: &Schema, kept: &BornRow) -> bool
+    ensures { result ≡ is_patients_row patient.now schema.now kept.now }
 {
     match subject_of(schema, &kept.row) {
         None => false,

@@ -1,5 +1,5 @@
 -- Each table is lent.
-use Rattle.std.proofs.Common.{arith, length}
+use Rattle.std.proofs.Common.{arith}
 use Rattle.hippo_history_uses.proofs.LendingLemmas.{lends_each}
 use Rattle.hippo_history_uses.proofs.lending.lent_tables.Goals as goal
 

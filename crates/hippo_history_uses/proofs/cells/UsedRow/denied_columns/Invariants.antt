@@ -1,5 +1,5 @@
 -- The columns so far, followed by the remaining ones.
-use Rattle.std.proofs.Common.{◌≡◌, ◌++◌, drop, filter_map, take, None}
+use Rattle.std.proofs.Common.{◌≡◌, ◌++◌, drop, filter_map, None}
 use Rattle.std.specs.Prelude.{if◌then◌else◌}
 use Rattle.std.specs.List.{enumerate_from}
 use Rattle.hippo_model.specs.Terms.{History}

@@ -1,5 +1,5 @@
 -- The values so far, followed by those of the remaining columns.
-use Rattle.std.proofs.Common.{◌≡◌, ◌++◌, drop, filter_map, take, None}
+use Rattle.std.proofs.Common.{◌≡◌, ◌++◌, drop, filter_map, None}
 use Rattle.std.specs.Prelude.{if◌then◌else◌}
 use Rattle.std.specs.List.{enumerate_from}
 use Rattle.hippo_model.specs.Rows.{cell_at}

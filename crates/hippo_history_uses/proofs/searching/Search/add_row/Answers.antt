@@ -1,5 +1,5 @@
 -- The row is about the patient, and the query used it.
-use Rattle.std.proofs.Common.{◌≡◌, ◌∙◌, sym, ap, subst, true}
+use Rattle.std.proofs.Common.{◌≡◌, ◌∙◌, sym, ap, subst}
 use Rattle.std.proofs.lemmas.Bool.{and_from}
 use Rattle.std.proofs.lemmas.Option.{same_Some}
 use Rattle.hippo_model.specs.declared.schema.Schema.{Schema}
@@ -7,7 +7,7 @@ use Rattle.hippo_policy.specs.Books.{BookRepresents}
 use Rattle.hippo_history_uses.specs.declared.asked.AskedThen.{AskedThen}
 use Rattle.hippo_history_uses.specs.Accesses.{access_to}
 use Rattle.hippo_history_uses.specs.Asking.{asker_of, front_of}
-use Rattle.hippo_history_uses.specs.Uses.{is_about}
+use Rattle.hippo_history_uses.specs.Uses.{is_patients_row}
 use Rattle.hippo_history_uses.proofs.SearchLemmas.{one_added}
 use Rattle.hippo_history_uses.proofs.searching.Search.add_row.Goals as goal
 
@@ -16,7 +16,7 @@ returns c = λ history schema its at there.
     let asked = c.args.self.now.asked.now in
     let kept = c.args.kept.now in
     let same : schema ≡ c.get-schema.result.now = same_Some schema c.get-schema.result.now (sym its.schema_is ∙ c.get-schema.ensures) in
-    let about = ap (λ (s : Schema). is_about asked.patient s kept) same ∙ sym c.is_about.ensures ∙ c.if-not-is_about.false in
+    let about = ap (λ (s : Schema). is_patients_row asked.patient s kept) same ∙ sym c.is_patients_row.ensures ∙ c.if-not-is_patients_row.false in
     let used = sym (c.in_ok-uses_row.ensures history schema its at there) ∙ c.if-not-branch.false in
     let asked_is = c.used_row.ensures.asked in
     let made = c.in_ok-access.ensures history (subst (λ (a : AskedThen). BookRepresents a.book.now history) (sym asked_is) its.search_is.book)
