@@ -3,6 +3,7 @@
 
 mod finish;
 mod named;
+mod narrow;
 mod ordering;
 mod rows;
 mod table;
