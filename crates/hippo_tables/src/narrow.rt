@@ -197,11 +197,7 @@ impl Tables {
     /// For each table of a query, whether it needs no secondary order: it has few rows, or the
     /// query bounds the first column of its key by literals so that few rows are found. A bound
     /// counts for each column that equalities lead to.
-    pub(crate) fn narrow_tables(
-        &self,
-        alloc: Global,
-        query: &Query,
-    ) -> Result<Vec<bool>, Memory> {
+    pub(crate) fn narrow_tables(&self, alloc: Global, query: &Query) -> Result<Vec<bool>, Memory> {
         let parts = outer_parts(&query.cond);
         let mut narrow = Vec::new(alloc);
         for (place, name) in query.tables.as_slice().iter().enumerate() {
