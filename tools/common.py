@@ -4,6 +4,8 @@ A script in a folder of tools/ finds this module by the line
     sys.path.insert(0, str(pathlib.Path(__file__).resolve().parent.parent))
 """
 import contextlib
+import importlib.machinery
+import importlib.util
 import os
 import pathlib
 import resource
@@ -55,6 +57,34 @@ def kit():
     """The folder of the Rattle kit."""
     found = pathlib.Path(shutil.which("rt") or "/opt/rattle/bin/rt").resolve().parent.parent
     return found if (found / "toolchain").is_dir() else pathlib.Path("/opt/rattle")
+
+
+def kits_own():
+    """What `rt` itself knows of crates and stamps."""
+    sys.dont_write_bytecode = True
+    loader = importlib.machinery.SourceFileLoader("rtlib", str(kit() / "bin/rtlib.py"))
+    made = importlib.util.module_from_spec(importlib.util.spec_from_loader("rtlib", loader))
+    sys.modules["rtlib"] = made
+    loader.exec_module(made)
+    return made
+
+
+def remembering(stamp):
+    """A stamp sums the files of all crates below; this sums those of each crate once."""
+    known = {}
+
+    def of(crate):
+        if crate.folder not in known:
+            known[crate.folder] = stamp(crate)
+        return known[crate.folder]
+
+    return of
+
+
+def crates_in(rtlib, top):
+    """The crates of a repository by name, as `rt` knows them. This becomes the current folder."""
+    os.chdir(top)
+    return {crate.name: crate for crate in rtlib.crates_below(str(top))}
 
 
 def tried(folder, text, *words):
