@@ -35,7 +35,7 @@ use Rattle.hippo_history_uses.specs.Uses.{is_patients_row, row_by_key, uses_row,
 use Rattle.hippo_history_uses.proofs.ConditionLemmas.{same_value, same_itself, column-true, key_equal, key_itself}
 use Rattle.hippo_history_uses.proofs.RowLemmas.{found-any, any_at, none_at, who, filter-none, any-map}
 
-singles : {A B : Type 0} (f : A → B) (members : List A) → flat_map (λ member. map (λ others. member ∷ others) ([] ∷ [])) (map f members) ≡ map (λ member. f member ∷ []) members
+pub singles : {A B : Type 0} (f : A → B) (members : List A) → flat_map (λ member. map (λ others. member ∷ others) ([] ∷ [])) (map f members) ≡ map (λ member. f member ∷ []) members
 singles f [] = refl
 singles f (first ∷ rest) = λ i. (f first ∷ []) ∷ singles f rest i
 
@@ -43,11 +43,11 @@ itself : {A : Type 0} (members : List A) → map (λ member. member) members ≡
 itself [] = refl
 itself (first ∷ rest) = λ i. first ∷ itself rest i
 
-alone_each : {A : Type 0} (members : List A) → flat_map (λ member. map (λ others. member ∷ others) ([] ∷ [])) members ≡ map (λ member. member ∷ []) members
+pub alone_each : {A : Type 0} (members : List A) → flat_map (λ member. map (λ others. member ∷ others) ([] ∷ [])) members ≡ map (λ member. member ∷ []) members
 alone_each [] = refl
 alone_each (first ∷ rest) = λ i. (first ∷ []) ∷ alone_each rest i
 
-key_same_itself : (key : Key) → same_cells key key ≡ true
+pub key_same_itself : (key : Key) → same_cells key key ≡ true
 key_same_itself key = ap is_eq (tied_itself cells_total key)
 
 module _ (law : AuditNeedsWhatItHas) (history : History) (context : Context) (query : Query) (schema : Schema) (moment : Moment) (condition : CondOf Operand)

@@ -7,3 +7,4 @@ pub mod Conditions
 pub mod Lending
 pub mod Searching
 pub mod Disclosing
+pub mod UseLaws

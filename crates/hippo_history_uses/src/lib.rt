@@ -5,6 +5,7 @@ mod asked;
 mod cells;
 mod conditions;
 mod disclosing;
+pub mod laws;
 mod lending;
 mod ordering;
 mod searching;
