@@ -64,9 +64,9 @@ module _ (patient : ℤ) (test : Entry → Bool) (history : History) where
       let later : AllByRecursion (NotBefore (count + 1)) (accesses_in patient test history part) = more (count + 1) (count + 1 + 1) less (accesses_in patient test history part) rest.after in
       elim (test entry) as (λ b. Ordered (count + 1) (flat_map (entry_accesses history patient) (cond b (entry ∷ filter test part) (filter test part)))) [
         | true ↦ record {
-            after = all_append (NotBefore (count + 1)) (entry_accesses history patient entry) (accesses_in patient test history part) (equal_all (count + 1) (entry_accesses history patient entry) own) later;
-            ordered = joined (count + 1) (entry_accesses history patient entry) (accesses_in patient test history part) own later rest.ordered;
-          }
+          after = all_append (NotBefore (count + 1)) (entry_accesses history patient entry) (accesses_in patient test history part) (equal_all (count + 1) (entry_accesses history patient entry) own) later;
+          ordered = joined (count + 1) (entry_accesses history patient entry) (accesses_in patient test history part) own later rest.ordered;
+        }
         | false ↦ record { after = later; ordered = rest.ordered }
       ]
 

@@ -50,7 +50,7 @@ AccessesAreInEntryOrder =
     (patient : ℤ) (test : Entry → Bool) (history : History) → is_valid meaning history ≡ true
     → AllPairs (λ first later. first.entry ≤ later.entry) (accesses_of patient test history)
 
--- DURING from TO to AUDIT SHOWN column FROM table WHERE the key is that of a row
+-- the audit DURING from TO to AUDIT SHOWN column FROM table WHERE the key is that of a row
 abbrev pub audit_of_cell : Moment → Moment → Schema → Row → Place → Audit
 audit_of_cell from to schema row column = record {
   from = from;
@@ -81,8 +81,8 @@ sees_cell history context query schema kept column =
     names_column query schema.name column && uses_row history context query schema kept
     && is_shown (verdict history context schema kept column)
 
--- an audit of a cell flags a query of its period exactly where the query names the column, used the
--- row, and was shown the cell
+-- an audit of a cell flags a query exactly where the query names the column, used the row, and was
+-- shown the cell. The audit's period includes the query.
 abbrev pub FlagsSayWhatIsSeen : Type 0
 FlagsSayWhatIsSeen =
     (history : History) (entry : Entry) (context : Context) (query : Query) (schema : Schema)
