@@ -1,10 +1,10 @@
 -- A record of a row's cell stands exactly where the audit of the cell flags the query.
-use Rattle.std.proofs.Common.{◌≡◌, ◌∙◌, sym, ap, refl, subst, ℕ, ◌+◌, ◌-◌, ℤ, zero, suc, Bool, true, false, cond, List, [], ◌∷◌, ◌++◌, map, filter, take, Option, None, Some, arith}
+use Rattle.std.proofs.Common.{◌≡◌, ◌∙◌, sym, ap, refl, subst, ℕ, ◌+◌, ◌-◌, ℤ, zero, suc, Bool, true, false, cond, List, [], ◌∷◌, filter, take, Option, None, Some, arith}
 use Rattle.std.specs.Prelude.{◌&&◌, ◌||◌, ◌==◌, slice_get, flat_map, bytes_eq}
 use Rattle.std.specs.List.{AllByRecursion, list_any}
 use Rattle.std.specs.Bool.{then_some}
 use Rattle.std.specs.Option.{option_map_or, option_or}
-use Rattle.std.proofs.lemmas.Bool.{and_parts, and_from, false≢true, eqb-true, eq-eqb}
+use Rattle.std.proofs.lemmas.Bool.{and_parts, false≢true, eqb-true, eq-eqb}
 use Rattle.std.proofs.lemmas.List.Folds.{list_any-append}
 use Rattle.std.proofs.lemmas.Option.{none-some, same_Some}
 use Rattle.std.proofs.lemmas.Slice.Eq.{bytes_eq-Decides}
@@ -16,7 +16,6 @@ use Rattle.hippo_model.specs.declared.entry.Act.{Act}
 use Rattle.hippo_model.specs.declared.entry.Act.TheVariants.{Create, Asked}
 use Rattle.hippo_model.specs.declared.entry.Entry.{Entry}
 use Rattle.hippo_model.specs.declared.query.Query.{Query}
-use Rattle.hippo_model.specs.declared.schema.Column.{Column}
 use Rattle.hippo_model.specs.declared.schema.Schema.{Schema}
 use Rattle.hippo_model.specs.Histories.{before_entry, schema_created, schema_at}
 use Rattle.hippo_model.specs.Rows.{key_of, table_rows, born_row_at}
@@ -34,7 +33,7 @@ use Rattle.hippo_audit_search.proofs.CommonLemmas.{same_as_itself}
 use Rattle.hippo_history_formats.specs.declared.access.Access.{Access}
 use Rattle.hippo_history_uses.specs.Accesses.{Asker, asker_context, access_to, table_accesses, query_accesses, act_accesses, entry_accesses, accesses_of}
 use Rattle.hippo_history_uses.specs.Cells.{names_column}
-use Rattle.hippo_history_uses.specs.UseLaws.{IsRowBefore, sees_cell, has_column, shows_cell, AuditsFlagAccesses}
+use Rattle.hippo_history_uses.specs.UseLaws.{IsRowBefore, has_column, shows_cell, AuditsFlagAccesses}
 use Rattle.hippo_history_uses.specs.Uses.{is_patients_row, uses_row, used_rows}
 use Rattle.hippo_history_uses.proofs.ColumnLemmas.{columns_are}
 use Rattle.hippo_history_uses.proofs.FlagLemmas.{born_itself, flags_say}

@@ -1,17 +1,16 @@
 -- An audit of a cell of a row, by the row's key, flags a query exactly where the query sees the cell.
 use Rattle.std.proofs.Common.{◌≡◌, ◌∙◌, sym, ap, refl, zero, suc, Bool, true, false, cond, List, [], ◌∷◌, map, Option, None, Some}
-use Rattle.std.specs.Prelude.{◌&&◌, ◌||◌, is_some, option_and_then, slice_get, bytes_eq, filter_map, if◌then◌else◌, int_le}
+use Rattle.std.specs.Prelude.{◌&&◌, ◌||◌, is_some, option_and_then, slice_get, bytes_eq, filter_map, if◌then◌else◌}
 use Rattle.std.specs.List.{cons_option, list_any}
 use Rattle.std.specs.Option.{option_map_or}
 use Rattle.std.proofs.lemmas.Bool.{and_parts, and_from, false≢true}
-use Rattle.std.proofs.lemmas.Option.{none-some, same_Some}
+use Rattle.std.proofs.lemmas.Option.{none-some}
 use Rattle.hippo_values.specs.declared.moments.Moment.{Moment}
 use Rattle.hippo_values.specs.Order.{same_cells}
 use Rattle.hippo_model.specs.declared.audit.Audit.{Audit}
 use Rattle.hippo_model.specs.declared.audit.SharedRow.{SharedRow}
 use Rattle.hippo_model.specs.declared.born_row.BornRow.{BornRow}
 use Rattle.hippo_model.specs.declared.entry.Act.TheVariants.{Asked}
-use Rattle.hippo_model.specs.declared.entry.Entry.{Entry}
 use Rattle.hippo_model.specs.declared.query.CondOf.{CondOf}
 use Rattle.hippo_model.specs.declared.query.Operand.{Operand}
 use Rattle.hippo_model.specs.declared.query.Query.{Query}
@@ -33,7 +32,7 @@ use Rattle.hippo_audit_search.specs.HistoryLaws.{AuditNeedsWhatItHas}
 use Rattle.hippo_audit_search.proofs.CommonLemmas.{same_as_itself}
 use Rattle.hippo_history_uses.specs.Cells.{names_column}
 use Rattle.hippo_history_uses.specs.Conditions.{own_column, key_is}
-use Rattle.hippo_history_uses.specs.UseLaws.{audit_of_cell, IsRowBefore, sees_cell, FlagsSayWhatIsSeen}
+use Rattle.hippo_history_uses.specs.UseLaws.{audit_of_cell, FlagsSayWhatIsSeen}
 use Rattle.hippo_history_uses.specs.Uses.{row_by_key, uses_row}
 use Rattle.hippo_history_uses.proofs.ConditionLemmas.{key_equal, key_itself}
 use Rattle.hippo_history_uses.proofs.RowLemmas.{found-any, any_at, none_at, who, any-map}

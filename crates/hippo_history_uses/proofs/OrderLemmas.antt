@@ -1,5 +1,5 @@
 -- Accesses are in the order of entries.
-use Rattle.std.proofs.Common.{◌≡◌, ◌∙◌, sym, ap, refl, subst, ℕ, ◌+◌, ◌<◌, ◌≤◌, ℤ, suc, Bool, true, false, cond, List, [], ◌∷◌, ◌++◌, filter, Some, arith}
+use Rattle.std.proofs.Common.{◌≡◌, refl, subst, ℕ, ◌+◌, ◌≤◌, ℤ, suc, Bool, true, false, cond, List, [], ◌∷◌, ◌++◌, filter, Some, arith}
 use Rattle.std.specs.Prelude.{slice_get, flat_map}
 use Rattle.std.specs.List.{AllByRecursion, AllPairs}
 use Rattle.std.proofs.lemmas.List.Kept.{AllPairs-cons}
@@ -10,7 +10,7 @@ use Rattle.hippo_model.specs.Terms.{History, Place}
 use Rattle.hippo_model_laws.proofs.ValidFronts.{entry_has_its_number}
 use Rattle.hippo_typing.specs.Meanings.{meaning}
 use Rattle.hippo_history_formats.specs.declared.access.Access.{Access}
-use Rattle.hippo_history_uses.specs.Accesses.{entry_accesses, accesses_in, accesses_of}
+use Rattle.hippo_history_uses.specs.Accesses.{entry_accesses, accesses_in}
 use Rattle.hippo_history_uses.specs.UseLaws.{AccessesAreInEntryOrder}
 use Rattle.hippo_history_uses.proofs.AuditLemmas.{HasNumber, number_act}
 use Rattle.hippo_history_uses.proofs.QuestionLemmas.{all_append}

@@ -9,7 +9,6 @@ use Rattle.hippo_model.specs.declared.entry.Act.{Act}
 use Rattle.hippo_model.specs.declared.entry.Act.TheVariants.{Asked}
 use Rattle.hippo_model.specs.declared.entry.Entry.{Entry}
 use Rattle.hippo_model.specs.declared.query.Query.{Query}
-use Rattle.hippo_model.specs.declared.schema.Schema.{Schema}
 use Rattle.hippo_model.specs.Histories.{before_entry, schema_at}
 use Rattle.hippo_model.specs.Terms.{History, Place}
 use Rattle.hippo_typing.specs.Meanings.{meaning}

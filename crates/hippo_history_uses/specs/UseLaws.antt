@@ -1,5 +1,5 @@
 -- Laws on the accesses of a history: whose they are, and which audits flag them.
-use Rattle.std.specs.Prelude.{◌≡◌, ◌≤◌, ◌==◌, ℕ, ℤ, true, Bool, ◌&&◌, List, [], ◌∷◌, ◌++◌, slice_get, Some, bytes_eq}
+use Rattle.std.specs.Prelude.{◌≡◌, ◌≤◌, ◌==◌, ℕ, ℤ, true, Bool, ◌&&◌, [], ◌∷◌, ◌++◌, slice_get, Some, bytes_eq}
 use Rattle.std.specs.List.{AllByRecursion, AllPairs, list_any}
 use Rattle.hippo_values.specs.Texts.{Txt}
 use Rattle.hippo_values.specs.Order.{same_cells}
