@@ -43,4 +43,4 @@ days_from day count (access ∷ later) =
 -- the days of accesses in the order of their moments, and how many are on each
 abbrev pub days : List Access → List DayCount
 days [] = []
-days (access ∷ later) = days_from (day_of access) 1 later
+days (first ∷ later) = days_from (day_of first) 0 (first ∷ later)

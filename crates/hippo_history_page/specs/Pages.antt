@@ -32,22 +32,28 @@ count_row texts total count =
     ++ (bar_cell total count ++ row_end)))
 
 -- the row of a user and a purpose, by one of their accesses
-abbrev pub asker_row : List Access → Access → Txt
+unfoldable pub asker_row : List Access → Access → Txt
 asker_row accesses access =
     count_row (access.user ∷ access.purpose ∷ []) (length accesses) (asker_count accesses access)
 
-abbrev pub day_row : List Access → DayCount → Txt
+unfoldable pub day_row : List Access → DayCount → Txt
 day_row accesses (day, count) = count_row (day_text day ∷ []) (length accesses) count
 
-abbrev pub access_row : Access → Txt
+unfoldable pub access_row : Access → Txt
 access_row access = text_row (access_fields access (moment_text access.moment))
 
--- who asks, the ends of the stretch of entries that is asked for, and the number of accesses
+-- who asks; and then the ends of the stretch of entries, and the number of accesses
+abbrev pub page_title : ℤ → Txt
+page_title patient =
+    title_start ++ (signed_decimal patient ++ (heading_start ++ signed_decimal patient))
+
+abbrev pub page_period : Txt → Txt → ℕ → Txt
+page_period first last count =
+    period_start ++ (escaped first ++ (period_middle ++ (escaped last
+    ++ (period_end ++ decimal count))))
+
 abbrev pub page_head : ℤ → Txt → Txt → ℕ → Txt
-page_head patient first last count =
-    title_start ++ (signed_decimal patient ++ (heading_start ++ (signed_decimal patient
-    ++ (period_start ++ (escaped first ++ (period_middle ++ (escaped last
-    ++ (period_end ++ decimal count))))))))
+page_head patient first last count = page_title patient ++ page_period first last count
 
 -- a row for each user and purpose, a row for each day, and a row for each access
 abbrev pub askers_part : List Access → Txt

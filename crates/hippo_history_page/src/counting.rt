@@ -68,19 +68,19 @@ fn day_of(access: &Access) -> DayNumber
     DayNumber::new(seconds.div_euclid(SECONDS_OF_DAY) as i32).unwrap()
 }
 
-// The days from one that has one access before these.
+// The days from one on which no access was counted yet.
 fn days_from(
     alloc: Global,
     first: DayNumber,
-    later: &[Access],
+    accesses: &[Access],
 ) -> Result<Sequence<DayCount>, Memory>
     ensures { IfOk result (λ made. map (λ one. (one.day, one.count)) made
-        ≡ days_from first 1 later.now) }
+        ≡ days_from first 0 accesses.now) }
 {
     let mut made = Sequence::new(alloc);
     let mut day = first;
-    let mut count = 1;
-    for access in later {
+    let mut count = 0;
+    for access in accesses {
         let next = day_of(access);
         if next == day {
             count += 1;
@@ -101,5 +101,5 @@ pub(crate) fn days(alloc: Global, accesses: &[Access]) -> Result<Sequence<DayCou
     if accesses.is_empty() {
         return Ok(Sequence::new(alloc));
     }
-    days_from(alloc, day_of(&accesses[0]), &accesses[1..])
+    days_from(alloc, day_of(&accesses[0]), accesses)
 }

@@ -1,7 +1,7 @@
 //! What was disclosed of a patient, as an HTML page.
 ghost use Rattle.std.specs.Prelude.{◌≡◌, ◌++◌, length, map, flat_map, OnOk};
 ghost use Rattle.std.specs.Fmt.{signed_decimal};
-ghost use Rattle.hippo_history_page.specs.Pages.{page_head, asker_row, day_row, access_row, askers_part, days_part, records_part, page};
+ghost use Rattle.hippo_history_page.specs.Pages.{page_title, page_period, page_head, asker_row, day_row, access_row, askers_part, days_part, records_part, page};
 
 use crate::counting::{DayCount, days, firsts};
 use crate::escaping::append_escaped;
@@ -26,20 +26,34 @@ fn append_number(number: i64, out: &mut Txt) -> Result<(), Memory>
     out.append(Buffer::new().format(number))
 }
 
+// Appends the title and the heading, which name the patient.
+fn append_title(patient: i64, out: &mut Txt) -> Result<(), Memory>
+    ensures { OnOk result (out.new ≡ out.old ++ page_title patient) }
+{
+    out.append(title_start())?;
+    append_number(patient, out)?;
+    out.append(heading_start())?;
+    append_number(patient, out)
+}
+
+// Appends the ends of the stretch of entries, and the number of accesses.
+fn append_period(first: &str, last: &str, count: usize, out: &mut Txt) -> Result<(), Memory>
+    ensures { OnOk result (out.new ≡ out.old ++ page_period first.now last.now count) }
+{
+    out.append(period_start())?;
+    append_escaped(first, out)?;
+    out.append(period_middle())?;
+    append_escaped(last, out)?;
+    out.append(period_end())?;
+    out.append(Buffer::new().format(count))
+}
+
 fn append_head(asked: &Asked<'_>, count: usize, out: &mut Txt) -> Result<(), Memory>
     ensures { OnOk result (out.new ≡ out.old
         ++ page_head asked.now.patient asked.now.first.now asked.now.last.now count) }
 {
-    out.append(title_start())?;
-    append_number(asked.patient, out)?;
-    out.append(heading_start())?;
-    append_number(asked.patient, out)?;
-    out.append(period_start())?;
-    append_escaped(asked.first, out)?;
-    out.append(period_middle())?;
-    append_escaped(asked.last, out)?;
-    out.append(period_end())?;
-    out.append(Buffer::new().format(count))
+    append_title(asked.patient, out)?;
+    append_period(asked.first, asked.last, count, out)
 }
 
 fn append_asker_rows(accesses: &[Access], firsts: &[&Access], out: &mut Txt) -> Result<(), Memory>

@@ -61,6 +61,7 @@ fn append_counted(
 }
 
 /// Appends the row of a user and a purpose, by one of their accesses.
+#[tactic(auto, unfolding(crate::specs::Pages::asker_row))]
 pub(crate) fn append_asker(
     accesses: &[Access],
     access: &Access,
@@ -78,6 +79,7 @@ pub(crate) fn append_asker(
 }
 
 /// Appends the row of a day.
+#[tactic(auto, unfolding(crate::specs::Pages::day_row))]
 pub(crate) fn append_day(accesses: &[Access], counted: &DayCount, out: &mut Txt) -> Result<(), Memory>
     ensures { OnOk result (out.new
         ≡ out.old ++ day_row accesses.now (counted.now.day, counted.now.count)) }
@@ -96,6 +98,7 @@ fn listed<T: Printed<0>>(alloc: Global, members: &[T]) -> Result<Txt, Memory>
 }
 
 /// Appends the row of an access.
+#[tactic(auto, unfolding(crate::specs::Pages::access_row))]
 pub(crate) fn append_access(alloc: Global, access: &Access, out: &mut Txt) -> Result<(), Memory>
     ensures { OnOk result (out.new ≡ out.old ++ access_row access.now) }
 {
