@@ -1,19 +1,25 @@
-//! What was disclosed of a patient, one line for each access.
-ghost use Rattle.std.specs.Prelude.{◌≡◌, ◌++◌, [], ◌∷◌, flat_map, OnOk};
+//! What was disclosed of a patient, one line for each access or as a page.
+ghost use Rattle.std.specs.Prelude.{◌≡◌, ◌++◌, [], ◌∷◌, flat_map, IfOk, OnOk};
 ghost use Rattle.hippo_model.specs.Terms.{History};
 ghost use Rattle.hippo_history_formats.specs.Accesses.{access_line};
-ghost use Rattle.hippo_history_top.specs.Inquiring.{is_inquired, accesses_shown, FindsAccesses};
+ghost use Rattle.hippo_history_page.specs.Pages.{page};
+ghost use Rattle.hippo_history_top.specs.Inquiring.{is_inquired, accesses_shown, bound_words, inquiry_shown, FindsAccesses};
 
-use crate::asking::Inquiry;
+use crate::asking::{Bound, Inquiry, Layout};
 use crate::gathering::Gather;
 use crate::scope::{is_from, is_to};
 use hippo_audit_job::Past;
-use hippo_history_formats::{Access, access_header, append_access};
+use hippo_history_formats::{Access, access_header, append_access, append_moment};
+use hippo_history_page::{Asked, append_page};
 use hippo_history_uses::Disclosures;
 use hippo_model::Entry;
 use hippo_report::Format;
 use hippo_values::{Memory, Txt};
+use itoa::Buffer;
 use std::alloc::Global;
+
+// The highest number of an entry.
+const LAST_ENTRY: u64 = 4_000_000;
 
 /// What is searched for: the accesses that an inquiry asks for, in a history of which this is known.
 #[derive(Clone, Copy)]
@@ -43,7 +49,8 @@ fn add(
 }
 
 impl<'a> Gather<Sought<'a>> for Disclosures {
-    ghost use Rattle.hippo_history_top.specs.Inquiring.{FindsAccesses};
+    ghost use Rattle.hippo_history_page.specs.Pages.{page};
+ghost use Rattle.hippo_history_top.specs.Inquiring.{FindsAccesses};
 
     ghost Covers = { λ found sought read. FindsAccesses sought found read };
 
@@ -66,8 +73,8 @@ fn append_lines(
     Ok(())
 }
 
-/// Appends what stands before all lines, and then a line for each access.
-pub(crate) fn append_accesses(
+// Appends what stands before all lines, and then a line for each access.
+fn append_accesses(
     alloc: Global,
     format: Format,
     accesses: &[Access],
@@ -77,4 +84,55 @@ pub(crate) fn append_accesses(
 {
     out.append(access_header(format))?;
     append_lines(alloc, format, accesses, out)
+}
+
+// An end of a stretch of entries, in words.
+fn bound_words(alloc: Global, bound: Bound) -> Result<Txt, Memory>
+    ensures { IfOk result (λ text. text ≡ bound_words bound) }
+{
+    let mut text = Txt::new(alloc);
+    match bound {
+        Bound::Number(LAST_ENTRY) => text.append("the last entry")?,
+        Bound::Number(number) => {
+            text.append("entry ")?;
+            text.append(Buffer::new().format(number))?;
+        }
+        Bound::At(moment) => append_moment(&moment, &mut text)?,
+    }
+    Ok(text)
+}
+
+// Appends the page about the accesses.
+fn append_html(
+    alloc: Global,
+    inquiry: &Inquiry,
+    accesses: &[Access],
+    out: &mut Txt,
+) -> Result<(), Memory>
+    ensures { OnOk result (out.new ≡ out.old ++ page inquiry.now.patient
+        (bound_words inquiry.now.first) (bound_words inquiry.now.last) accesses.now) }
+{
+    let first = bound_words(alloc, inquiry.first)?;
+    let last = bound_words(alloc, inquiry.last)?;
+    let asked = Asked {
+        patient: inquiry.patient,
+        first: first.as_str(),
+        last: last.as_str(),
+    };
+    append_page(alloc, &asked, accesses, out)
+}
+
+/// Appends the accesses as an inquiry asks for them.
+pub(crate) fn append_inquired(
+    alloc: Global,
+    inquiry: &Inquiry,
+    accesses: &[Access],
+    out: &mut Txt,
+) -> Result<(), Memory>
+    ensures { OnOk result (out.new ≡ out.old ++ inquiry_shown inquiry.now accesses.now) }
+{
+    match inquiry.layout {
+        Layout::Lines(format) => append_accesses(alloc, format, accesses, out),
+        Layout::Html => append_html(alloc, inquiry, accesses, out),
+    }
 }
