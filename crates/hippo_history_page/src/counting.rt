@@ -46,10 +46,7 @@ fn is_found(access: &Access, found: &[&Access]) -> bool
 }
 
 /// The first access of each user and purpose.
-pub(crate) fn firsts<'a>(
-    alloc: Global,
-    accesses: &'a [Access],
-) -> Result<Vec<&'a Access>, Memory>
+pub(crate) fn firsts<'a>(alloc: Global, accesses: &'a [Access]) -> Result<Vec<&'a Access>, Memory>
     ensures { IfOk result (λ found. map (λ one. one.now) found.items ≡ firsts accesses.now) }
 {
     let mut found = Vec::new(alloc);

@@ -6,7 +6,10 @@ ghost use Rattle.hippo_history_page.specs.Pages.{page_title, page_period, page_h
 use crate::counting::{DayCount, days, firsts};
 use crate::escaping::append_escaped;
 use crate::rows::{append_access, append_asker, append_day};
-use crate::words::{askers_start, days_start, heading_start, page_end, period_end, period_middle, period_start, records_start, title_start};
+use crate::words::{
+    askers_start, days_start, heading_start, page_end, period_end, period_middle, period_start,
+    records_start, title_start,
+};
 use hippo_history_formats::Access;
 use hippo_values::{Memory, Txt};
 use itoa::Buffer;

@@ -44,12 +44,7 @@ fn append_bar(total: usize, count: usize, out: &mut Txt) -> Result<(), Memory>
 }
 
 // Appends a row of texts, with how many accesses of all it stands for.
-fn append_counted(
-    texts: &[&str],
-    total: usize,
-    count: usize,
-    out: &mut Txt,
-) -> Result<(), Memory>
+fn append_counted(texts: &[&str], total: usize, count: usize, out: &mut Txt) -> Result<(), Memory>
     ensures { OnOk result (out.new
         ≡ out.old ++ count_row (map (λ text. text.now) texts.now) total count) }
 {
@@ -80,7 +75,11 @@ pub(crate) fn append_asker(
 
 /// Appends the row of a day.
 #[tactic(auto, unfolding(crate::specs::Pages::day_row))]
-pub(crate) fn append_day(accesses: &[Access], counted: &DayCount, out: &mut Txt) -> Result<(), Memory>
+pub(crate) fn append_day(
+    accesses: &[Access],
+    counted: &DayCount,
+    out: &mut Txt,
+) -> Result<(), Memory>
     ensures { OnOk result (out.new
         ≡ out.old ++ day_row accesses.now (counted.now.day, counted.now.count)) }
 {

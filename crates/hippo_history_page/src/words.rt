@@ -6,14 +6,33 @@ ghost use Rattle.hippo_history_page.specs.Words.{title_start, heading_start, per
 pub(crate) fn title_start() -> &'static str
     ensures { result.now ≡ title_start }
 {
-    "<!DOCTYPE html>\n<html lang=\"en\">\n<head>\n<meta charset=\"utf-8\">\n<meta http-equiv=\"Content-Security-Policy\" content=\"default-src 'none'; style-src 'unsafe-inline'\">\n<title>What was disclosed of patient "
+    "<!DOCTYPE html>\n\
+    <html lang=\"en\">\n\
+    <head>\n\
+    <meta charset=\"utf-8\">\n\
+    <meta http-equiv=\"Content-Security-Policy\" content=\"default-src 'none'; \
+    style-src 'unsafe-inline'\">\n\
+    <title>What was disclosed of patient "
 }
 
 #[tactic(auto, unfolding(crate::specs::Words::heading_start))]
 pub(crate) fn heading_start() -> &'static str
     ensures { result.now ≡ heading_start }
 {
-    "</title>\n<style>\nbody { font-family: sans-serif; margin: 2em; }\ntable { border-collapse: collapse; }\nthead { display: table-header-group; }\ntr { break-inside: avoid; }\nth, td { border: 1px solid #999; padding: 0.2em 0.5em; text-align: left; vertical-align: top; overflow-wrap: anywhere; }\nsvg { width: 16em; height: 1em; }\nrect { fill: #357; }\n</style>\n</head>\n<body>\n<h1>What was disclosed of patient "
+    "</title>\n\
+    <style>\n\
+    body { font-family: sans-serif; margin: 2em; }\n\
+    table { border-collapse: collapse; }\n\
+    thead { display: table-header-group; }\n\
+    tr { break-inside: avoid; }\n\
+    th, td { border: 1px solid #999; padding: 0.2em 0.5em; text-align: left; \
+    vertical-align: top; overflow-wrap: anywhere; }\n\
+    svg { width: 16em; height: 1em; }\n\
+    rect { fill: #357; }\n\
+    </style>\n\
+    </head>\n\
+    <body>\n\
+    <h1>What was disclosed of patient "
 }
 
 #[tactic(auto, unfolding(crate::specs::Words::period_start))]
@@ -41,21 +60,38 @@ pub(crate) fn period_end() -> &'static str
 pub(crate) fn askers_start() -> &'static str
     ensures { result.now ≡ askers_start }
 {
-    ".</p>\n<h2>Accesses by user and purpose</h2>\n<table>\n<thead><tr><th>User</th><th>Purpose</th><th>Accesses</th><th>Share</th></tr></thead>\n<tbody>\n"
+    ".</p>\n\
+    <h2>Accesses by user and purpose</h2>\n\
+    <table>\n\
+    <thead><tr><th>User</th><th>Purpose</th><th>Accesses</th>\
+    <th>Share</th></tr></thead>\n\
+    <tbody>\n"
 }
 
 #[tactic(auto, unfolding(crate::specs::Words::days_start))]
 pub(crate) fn days_start() -> &'static str
     ensures { result.now ≡ days_start }
 {
-    "</tbody>\n</table>\n<h2>Accesses by day</h2>\n<table>\n<thead><tr><th>Day</th><th>Accesses</th><th>Share</th></tr></thead>\n<tbody>\n"
+    "</tbody>\n\
+    </table>\n\
+    <h2>Accesses by day</h2>\n\
+    <table>\n\
+    <thead><tr><th>Day</th><th>Accesses</th><th>Share</th></tr></thead>\n\
+    <tbody>\n"
 }
 
 #[tactic(auto, unfolding(crate::specs::Words::records_start))]
 pub(crate) fn records_start() -> &'static str
     ensures { result.now ≡ records_start }
 {
-    "</tbody>\n</table>\n<h2>Accesses</h2>\n<table>\n<thead><tr><th>Entry</th><th>Moment</th><th>User</th><th>Purpose</th><th>Recipient</th><th>Table</th><th>Key</th><th>Shown</th><th>Tested</th><th>Denied, with the rule</th></tr></thead>\n<tbody>\n"
+    "</tbody>\n\
+    </table>\n\
+    <h2>Accesses</h2>\n\
+    <table>\n\
+    <thead><tr><th>Entry</th><th>Moment</th><th>User</th><th>Purpose</th>\
+    <th>Recipient</th><th>Table</th><th>Key</th><th>Shown</th><th>Tested</th>\
+    <th>Denied, with the rule</th></tr></thead>\n\
+    <tbody>\n"
 }
 
 #[tactic(auto, unfolding(crate::specs::Words::page_end))]

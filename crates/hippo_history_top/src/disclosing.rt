@@ -3,7 +3,7 @@ ghost use Rattle.std.specs.Prelude.{◌≡◌, ◌++◌, [], ◌∷◌, flat_map
 ghost use Rattle.hippo_model.specs.Terms.{History};
 ghost use Rattle.hippo_history_formats.specs.Accesses.{access_line};
 ghost use Rattle.hippo_history_page.specs.Pages.{page};
-ghost use Rattle.hippo_history_top.specs.Inquiring.{is_inquired, accesses_shown, bound_words, inquiry_shown, FindsAccesses};
+ghost use Rattle.hippo_history_top.specs.Inquiring.{is_inquired, accesses_shown, entry_words, bound_words, inquiry_shown, FindsAccesses};
 
 use crate::asking::{Bound, Inquiry, Layout};
 use crate::gathering::Gather;
@@ -50,7 +50,7 @@ fn add(
 
 impl<'a> Gather<Sought<'a>> for Disclosures {
     ghost use Rattle.hippo_history_page.specs.Pages.{page};
-ghost use Rattle.hippo_history_top.specs.Inquiring.{FindsAccesses};
+    ghost use Rattle.hippo_history_top.specs.Inquiring.{FindsAccesses};
 
     ghost Covers = { λ found sought read. FindsAccesses sought found read };
 
@@ -86,18 +86,25 @@ fn append_accesses(
     append_lines(alloc, format, accesses, out)
 }
 
+// Appends the number of an entry that ends a stretch, in words.
+fn append_entry_words(number: u64, out: &mut Txt) -> Result<(), Memory>
+    ensures { OnOk result (out.new ≡ out.old ++ entry_words number) }
+{
+    if number == LAST_ENTRY {
+        return out.append("the last entry");
+    }
+    out.append("entry ")?;
+    out.append(Buffer::new().format(number))
+}
+
 // An end of a stretch of entries, in words.
-fn bound_words(alloc: Global, bound: Bound) -> Result<Txt, Memory>
-    ensures { IfOk result (λ text. text ≡ bound_words bound) }
+fn bound_words(alloc: Global, bound: &Bound) -> Result<Txt, Memory>
+    ensures { IfOk result (λ text. text ≡ bound_words bound.now) }
 {
     let mut text = Txt::new(alloc);
     match bound {
-        Bound::Number(LAST_ENTRY) => text.append("the last entry")?,
-        Bound::Number(number) => {
-            text.append("entry ")?;
-            text.append(Buffer::new().format(number))?;
-        }
-        Bound::At(moment) => append_moment(&moment, &mut text)?,
+        Bound::Number(number) => append_entry_words(*number, &mut text)?,
+        Bound::At(moment) => append_moment(moment, &mut text)?,
     }
     Ok(text)
 }
@@ -112,8 +119,8 @@ fn append_html(
     ensures { OnOk result (out.new ≡ out.old ++ page inquiry.now.patient
         (bound_words inquiry.now.first) (bound_words inquiry.now.last) accesses.now) }
 {
-    let first = bound_words(alloc, inquiry.first)?;
-    let last = bound_words(alloc, inquiry.last)?;
+    let first = bound_words(alloc, &inquiry.first)?;
+    let last = bound_words(alloc, &inquiry.last)?;
     let asked = Asked {
         patient: inquiry.patient,
         first: first.as_str(),
