@@ -26,8 +26,8 @@ abbrev pub firsts : List Access → List Access
 firsts accesses = firsts_after [] accesses
 
 -- the day of an access
-abbrev pub day_of : Access → ℤ
-day_of access = int_div_euclid access.moment (pos day_seconds)
+abbrev pub access_day : Access → ℤ
+access_day access = int_div_euclid access.moment (pos day_seconds)
 
 -- a day, and how many accesses in a row are on it
 abbrev pub DayCount : Type 0
@@ -37,10 +37,10 @@ DayCount = ℤ × ℕ
 abbrev pub days_from : ℤ → ℕ → List Access → List DayCount
 days_from day count [] = (day, count) ∷ []
 days_from day count (access ∷ later) =
-    if int_eq (day_of access) day then days_from day (count + 1) later
-    else (day, count) ∷ days_from (day_of access) 1 later
+    if int_eq (access_day access) day then days_from day (count + 1) later
+    else (day, count) ∷ days_from (access_day access) 1 later
 
 -- the days of accesses in the order of their moments, and how many are on each
 abbrev pub days : List Access → List DayCount
 days [] = []
-days (first ∷ later) = days_from (day_of first) 0 (first ∷ later)
+days (first ∷ later) = days_from (access_day first) 0 (first ∷ later)

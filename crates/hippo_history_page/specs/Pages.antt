@@ -1,5 +1,5 @@
 -- What was disclosed of a patient, as an HTML page.
-use Rattle.std.specs.Prelude.{ℕ, ℤ, List, [], ◌∷◌, ◌++◌, length, flat_map, decimal}
+use Rattle.std.specs.Prelude.{ℕ, ℤ, ◌==◌, List, [], ◌∷◌, ◌++◌, length, flat_map, if◌then◌else◌, codes, decimal}
 use Rattle.std.specs.Fmt.{signed_decimal}
 use Rattle.hippo_values_text.specs.Dates.{day_text, moment_text}
 use Rattle.hippo_values.specs.Texts.{Txt}
@@ -7,7 +7,7 @@ use Rattle.hippo_history_formats.specs.declared.access.Access.{Access}
 use Rattle.hippo_history_formats.specs.Accesses.{access_fields}
 use Rattle.hippo_history_page.specs.Counts.{DayCount, asker_count, firsts, days}
 use Rattle.hippo_history_page.specs.Escapes.{escaped}
-use Rattle.hippo_history_page.specs.Words.{title_start, heading_start, period_start, period_middle, period_end, askers_start, days_start, records_start, page_end, bar_start, bar_middle, bar_end, row_start, row_end, cell_start, cell_end}
+use Rattle.hippo_history_page.specs.Words.{title_start, heading_start, period_start, period_middle, period_end, askers_start, days_start, records_start, page_close, bar_start, bar_middle, bar_end, row_start, row_end, cell_start, cell_end}
 
 -- a cell with a text, and cells one after another
 abbrev pub text_cell : Txt → Txt
@@ -42,6 +42,11 @@ day_row accesses (day, count) = count_row (day_text day ∷ []) (length accesses
 unfoldable pub access_row : Access → Txt
 access_row access = text_row (access_fields access (moment_text access.moment))
 
+-- an end of the stretch of entries by its number, in words; entries have numbers up to 4000000
+abbrev pub entry_words : ℕ → Txt
+entry_words number =
+    if number == 4000000 then codes "the last entry" else codes "entry " ++ decimal number
+
 -- who asks; and then the ends of the stretch of entries, and the number of accesses
 abbrev pub page_title : ℤ → Txt
 page_title patient =
@@ -69,4 +74,4 @@ records_part accesses = records_start ++ flat_map access_row accesses
 abbrev pub page : ℤ → Txt → Txt → List Access → Txt
 page patient first last accesses =
     page_head patient first last (length accesses) ++ (askers_part accesses
-    ++ (days_part accesses ++ (records_part accesses ++ page_end)))
+    ++ (days_part accesses ++ (records_part accesses ++ page_close)))

@@ -69,8 +69,8 @@ records_start =
     ++ codes "<th>Denied, with the rule</th></tr></thead>\n"
     ++ codes "<tbody>\n"
 
-unfoldable pub page_end : Txt
-page_end = codes "</tbody>\n</table>\n</body>\n</html>\n"
+unfoldable pub page_close : Txt
+page_close = codes "</tbody>\n</table>\n</body>\n</html>\n"
 
 -- a bar: a part of a whole
 unfoldable pub bar_start : Txt

@@ -1,7 +1,7 @@
 //! How many accesses are by one user for one purpose, and how many are on one day.
 ghost use Rattle.std.specs.Prelude.{◌≡◌, [], ◌∷◌, ◌++◌, map, IfOk, OnOk};
 ghost use Rattle.std.specs.List.{list_any};
-ghost use Rattle.hippo_history_page.specs.Counts.{have_one_asker, asker_count, firsts, day_of, days_from, days};
+ghost use Rattle.hippo_history_page.specs.Counts.{have_one_asker, asker_count, firsts, access_day, days_from, days};
 
 use hippo_history_formats::Access;
 use hippo_model::Lent;
@@ -58,8 +58,8 @@ pub(crate) fn firsts<'a>(alloc: Global, accesses: &'a [Access]) -> Result<Vec<&'
     Ok(found)
 }
 
-fn day_of(access: &Access) -> DayNumber
-    ensures { result ≡ day_of access.now }
+fn access_day(access: &Access) -> DayNumber
+    ensures { result ≡ access_day access.now }
 {
     let seconds = access.moment.seconds();
     DayNumber::new(seconds.div_euclid(SECONDS_OF_DAY) as i32).unwrap()
@@ -78,7 +78,7 @@ fn days_from(
     let mut day = first;
     let mut count = 0;
     for access in accesses {
-        let next = day_of(access);
+        let next = access_day(access);
         if next == day {
             count += 1;
         } else {
@@ -98,5 +98,5 @@ pub(crate) fn days(alloc: Global, accesses: &[Access]) -> Result<Sequence<DayCou
     if accesses.is_empty() {
         return Ok(Sequence::new(alloc));
     }
-    days_from(alloc, day_of(&accesses[0]), accesses)
+    days_from(alloc, access_day(&accesses[0]), accesses)
 }

@@ -9,4 +9,4 @@ mod rows;
 mod words;
 
 pub use laws::reads_back;
-pub use pages::{Asked, append_page};
+pub use pages::{Asked, append_entry_words, append_page};

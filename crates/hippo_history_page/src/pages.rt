@@ -1,13 +1,13 @@
 //! What was disclosed of a patient, as an HTML page.
-ghost use Rattle.std.specs.Prelude.{◌≡◌, ◌++◌, length, map, flat_map, OnOk};
+ghost use Rattle.std.specs.Prelude.{◌≡◌, ◌++◌, length, map, flat_map, OnOk, codes, decimal};
 ghost use Rattle.std.specs.Fmt.{signed_decimal};
-ghost use Rattle.hippo_history_page.specs.Pages.{page_title, page_period, page_head, asker_row, day_row, access_row, askers_part, days_part, records_part, page};
+ghost use Rattle.hippo_history_page.specs.Pages.{entry_words, page_title, page_period, page_head, asker_row, day_row, access_row, askers_part, days_part, records_part, page};
 
 use crate::counting::{DayCount, days, firsts};
 use crate::escaping::append_escaped;
 use crate::rows::{append_access, append_asker, append_day};
 use crate::words::{
-    askers_start, days_start, heading_start, page_end, period_end, period_middle, period_start,
+    askers_start, days_start, heading_start, page_close, period_end, period_middle, period_start,
     records_start, title_start,
 };
 use hippo_history_formats::Access;
@@ -15,12 +15,34 @@ use hippo_values::{Memory, Txt};
 use itoa::Buffer;
 use std::alloc::Global;
 
+// The highest number of an entry.
+const LAST_ENTRY: u64 = 4_000_000;
+
 /// What a page is about: the number of a patient, and the ends of the stretch of entries, in words.
 #[derive(Clone, Copy)]
 pub struct Asked<'a> {
     pub patient: i64,
     pub first: &'a str,
     pub last: &'a str,
+}
+
+fn append_entry(number: u64, out: &mut Txt) -> Result<(), Memory>
+    ensures { OnOk result (out.new ≡ out.old ++ (codes "entry " ++ decimal number)) }
+{
+    out.append("entry ")?;
+    out.append(Buffer::new().format(number))
+}
+
+/// Appends an end of a stretch of entries by its number, in words. The highest number is that of
+/// the last entry.
+pub fn append_entry_words(number: u64, out: &mut Txt) -> Result<(), Memory>
+    ensures { OnOk result (out.new ≡ out.old ++ entry_words number) }
+{
+    if number == LAST_ENTRY {
+        out.append("the last entry")
+    } else {
+        append_entry(number, out)
+    }
 }
 
 fn append_number(number: i64, out: &mut Txt) -> Result<(), Memory>
@@ -125,5 +147,5 @@ pub fn append_page(
     append_askers(alloc, accesses, out)?;
     append_days(alloc, accesses, out)?;
     append_records(alloc, accesses, out)?;
-    out.append(page_end())
+    out.append(page_close())
 }

@@ -1,6 +1,6 @@
 //! The words of a page that are always the same.
 ghost use Rattle.std.specs.Prelude.{◌≡◌};
-ghost use Rattle.hippo_history_page.specs.Words.{title_start, heading_start, period_start, period_middle, period_end, askers_start, days_start, records_start, page_end, bar_start, bar_middle, bar_end, row_start, row_end, cell_start, cell_end};
+ghost use Rattle.hippo_history_page.specs.Words.{title_start, heading_start, period_start, period_middle, period_end, askers_start, days_start, records_start, page_close, bar_start, bar_middle, bar_end, row_start, row_end, cell_start, cell_end};
 
 #[tactic(auto, unfolding(crate::specs::Words::title_start))]
 pub(crate) fn title_start() -> &'static str
@@ -94,9 +94,9 @@ pub(crate) fn records_start() -> &'static str
     <tbody>\n"
 }
 
-#[tactic(auto, unfolding(crate::specs::Words::page_end))]
-pub(crate) fn page_end() -> &'static str
-    ensures { result.now ≡ page_end }
+#[tactic(auto, unfolding(crate::specs::Words::page_close))]
+pub(crate) fn page_close() -> &'static str
+    ensures { result.now ≡ page_close }
 {
     "</tbody>\n</table>\n</body>\n</html>\n"
 }

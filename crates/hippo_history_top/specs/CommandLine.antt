@@ -218,12 +218,12 @@ page_call rows =
     (option_and_then (inquiry_view rows Html) (first_of (codes "patient") rows))
 
 -- what is asked for by words that the command takes
-abbrev pub call_in : List Row → Option Call
-call_in rows =
+abbrev pub showing_asked : List Row → Option Call
+showing_asked rows =
     if is_html rows then page_call rows else option_and_then (call_in_format rows) (format_in rows)
 
 abbrev pub showing_call : List Row → Option Call
-showing_call rows = if options_fit rows then call_in rows else None
+showing_call rows = if options_fit rows then showing_asked rows else None
 
 -- what the words of a call ask for, if anything
 unfoldable pub asked_of : List Txt → Option Call

@@ -1,5 +1,5 @@
 -- What was disclosed of a patient, as it is shown.
-use Rattle.std.specs.Prelude.{◌≡◌, ℕ, ◌==◌, Bool, ◌&&◌, List, ◌++◌, flat_map, if◌then◌else◌, codes, decimal}
+use Rattle.std.specs.Prelude.{◌≡◌, Bool, ◌&&◌, List, ◌++◌, flat_map}
 use Rattle.hippo_values_text.specs.Dates.{moment_text}
 use Rattle.hippo_values.specs.Texts.{Txt}
 use Rattle.hippo_model.specs.declared.entry.Entry.{Entry}
@@ -10,7 +10,7 @@ use Rattle.hippo_replay.specs.Standing.{Represents}
 use Rattle.hippo_replay.specs.declared.state.State.{State}
 use Rattle.hippo_history_formats.specs.declared.access.Access.{Access}
 use Rattle.hippo_history_formats.specs.Accesses.{access_header, access_line}
-use Rattle.hippo_history_page.specs.Pages.{page}
+use Rattle.hippo_history_page.specs.Pages.{entry_words, page}
 use Rattle.hippo_history_uses.specs.Disclosing.{AreDisclosed}
 use Rattle.hippo_history_uses.specs.Accesses.{accesses_of}
 use Rattle.hippo_history_uses.specs.declared.disclosing.Disclosures.{Disclosures}
@@ -34,11 +34,7 @@ accesses_asked inquiry history = accesses_of inquiry.patient (is_inquired inquir
 abbrev pub accesses_shown : Format → List Access → Txt
 accesses_shown format accesses = access_header format ++ flat_map (access_line format) accesses
 
--- an end of a stretch of entries, in words; entries have numbers up to 4000000
-abbrev pub entry_words : ℕ → Txt
-entry_words number =
-    if number == 4000000 then codes "the last entry" else codes "entry " ++ decimal number
-
+-- an end of a stretch of entries, in words
 abbrev pub bound_words : Bound → Txt
 bound_words (Number number) = entry_words number
 bound_words (At moment) = moment_text moment

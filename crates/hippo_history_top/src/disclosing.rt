@@ -3,23 +3,19 @@ ghost use Rattle.std.specs.Prelude.{◌≡◌, ◌++◌, [], ◌∷◌, flat_map
 ghost use Rattle.hippo_model.specs.Terms.{History};
 ghost use Rattle.hippo_history_formats.specs.Accesses.{access_line};
 ghost use Rattle.hippo_history_page.specs.Pages.{page};
-ghost use Rattle.hippo_history_top.specs.Inquiring.{is_inquired, accesses_shown, entry_words, bound_words, inquiry_shown, FindsAccesses};
+ghost use Rattle.hippo_history_top.specs.Inquiring.{is_inquired, accesses_shown, bound_words, inquiry_shown, FindsAccesses};
 
 use crate::asking::{Bound, Inquiry, Layout};
 use crate::gathering::Gather;
 use crate::scope::{is_from, is_to};
 use hippo_audit_job::Past;
 use hippo_history_formats::{Access, access_header, append_access, append_moment};
-use hippo_history_page::{Asked, append_page};
+use hippo_history_page::{Asked, append_entry_words, append_page};
 use hippo_history_uses::Disclosures;
 use hippo_model::Entry;
 use hippo_report::Format;
 use hippo_values::{Memory, Txt};
-use itoa::Buffer;
 use std::alloc::Global;
-
-// The highest number of an entry.
-const LAST_ENTRY: u64 = 4_000_000;
 
 /// What is searched for: the accesses that an inquiry asks for, in a history of which this is known.
 #[derive(Clone, Copy)]
@@ -84,17 +80,6 @@ fn append_accesses(
 {
     out.append(access_header(format))?;
     append_lines(alloc, format, accesses, out)
-}
-
-// Appends the number of an entry that ends a stretch, in words.
-fn append_entry_words(number: u64, out: &mut Txt) -> Result<(), Memory>
-    ensures { OnOk result (out.new ≡ out.old ++ entry_words number) }
-{
-    if number == LAST_ENTRY {
-        return out.append("the last entry");
-    }
-    out.append("entry ")?;
-    out.append(Buffer::new().format(number))
 }
 
 // An end of a stretch of entries, in words.
