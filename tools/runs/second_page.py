@@ -16,8 +16,8 @@ body { font-family: sans-serif; margin: 2em; }
 table { border-collapse: collapse; }
 thead { display: table-header-group; }
 tr { break-inside: avoid; }
-th, td { border: 1px solid #999; padding: 0.2em 0.5em; text-align: left; vertical-align: top; \
-overflow-wrap: anywhere; }
+th, td { border: 1px solid #999; padding: 0.2em 0.5em; text-align: left; vertical-align: top; }
+td:nth-child(n+7) { overflow-wrap: anywhere; }
 svg { width: 16em; height: 1em; }
 rect { fill: #357; }
 </style>
