@@ -10,7 +10,8 @@ style =
     ++ codes "thead { display: table-header-group; }\n"
     ++ codes "tr { break-inside: avoid; }\n"
     ++ codes "th, td { border: 1px solid #999; padding: 0.2em 0.5em; text-align: left; "
-    ++ codes "vertical-align: top; overflow-wrap: anywhere; }\n"
+    ++ codes "vertical-align: top; }\n"
+    ++ codes "td:nth-child(n+7) { overflow-wrap: anywhere; }\n"
     ++ codes "svg { width: 16em; height: 1em; }\n"
     ++ codes "rect { fill: #357; }\n"
 

@@ -26,7 +26,8 @@ pub(crate) fn heading_start() -> &'static str
     thead { display: table-header-group; }\n\
     tr { break-inside: avoid; }\n\
     th, td { border: 1px solid #999; padding: 0.2em 0.5em; text-align: left; \
-    vertical-align: top; overflow-wrap: anywhere; }\n\
+    vertical-align: top; }\n\
+    td:nth-child(n+7) { overflow-wrap: anywhere; }\n\
     svg { width: 16em; height: 1em; }\n\
     rect { fill: #357; }\n\
     </style>\n\
