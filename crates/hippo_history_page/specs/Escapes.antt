@@ -1,5 +1,5 @@
 -- Texts between the tags of an HTML page: how they are written, and how a browser reads them.
-use Rattle.std.specs.Prelude.{◌≡◌, ℕ, zero, suc, ◌==◌, nat_eq, Bool, false, ◌||◌, List, [], ◌∷◌, ◌++◌, flat_map, Option, Some, None, if◌then◌else◌, codes}
+use Rattle.std.specs.Prelude.{◌≡◌, ℕ, zero, suc, ◌==◌, nat_eq, Bool, false, ◌||◌, [], ◌∷◌, ◌++◌, flat_map, Option, Some, None, if◌then◌else◌, codes}
 use Rattle.std.specs.List.{starts_with, list_any}
 use Rattle.hippo_values.specs.Texts.{Txt}
 

@@ -1,4 +1,3 @@
-use Rattle.std.proofs.Common.{◌∙◌, append_assoc}
 use Rattle.std.proofs.lemmas.Str.{IsUtf8-past_char}
 use Rattle.hippo_history_page.proofs.EscapeLemmas.{escaped-character}
 use Rattle.hippo_history_page.proofs.escaping.append_escaped.Goals as goal
