@@ -18,7 +18,7 @@ use Rattle.hippo_history_top.specs.declared.asking.Inquiry.{Inquiry}
 use Rattle.hippo_history_top.specs.declared.asking.View.TheVariants.{Patient}
 use Rattle.hippo_history_top.specs.declared.disclosing.Sought.{Sought}
 use Rattle.hippo_history_top.specs.Gathering.{GathersAll}
-use Rattle.hippo_history_top.specs.Inquiring.{is_inquired, accesses_asked, accesses_shown, FindsAccesses, KnowsPast}
+use Rattle.hippo_history_top.specs.Inquiring.{is_inquired, accesses_asked, inquiry_shown, FindsAccesses, KnowsPast}
 use Rattle.hippo_history_top.specs.Progress.{ShowsLoaded}
 use Rattle.hippo_history_top.specs.Saying.{Writes}
 use Rattle.hippo_history_top.specs.Showing.{shown_text}
@@ -48,11 +48,11 @@ module _ (sought : Sought) (state : State) (knows : KnowsPast sought state) (sta
   accesses_found history so stands = (so history [] (knows history stands) (sym (append-nil history))).accesses_are
 
   pub loaded_patient : FindsAccesses sought start [] → GathersAll (FindsAccesses sought start) (FindsAccesses sought found) (well Fault) before after ticks ticks'
-      → Writes (accesses_shown inquiry.format found.accesses) cut written written' faults faults'
+      → Writes (inquiry_shown inquiry found.accesses) cut written written' faults faults'
       → ShowsLoaded state (Patient inquiry) (unwrap_or cut Served) before after written written' faults faults' ticks ticks'
   loaded_patient none all writes =
-      let text : Txt = accesses_shown inquiry.format found.accesses in
+      let text : Txt = inquiry_shown inquiry found.accesses in
       let IsText : History → Type 0 = λ history. text ≡ shown_text (Patient inquiry) history in
       gathered_page (FindsAccesses sought start) (FindsAccesses sought found) state before after ticks ticks' (Patient inquiry) all none IsText
-      (λ history. shown_text (Patient inquiry) history) (λ history so stands. (ap (accesses_shown inquiry.format) (accesses_found history so stands), refl)) written written' faults faults' cut
+      (λ history. shown_text (Patient inquiry) history) (λ history so stands. (ap (inquiry_shown inquiry) (accesses_found history so stands), refl)) written written' faults faults' cut
       (page_written IsText (λ history. shown_text (Patient inquiry) history) written faults written' faults' text (λ history is. is) cut writes)

@@ -20,6 +20,8 @@ use Rattle.hippo_history_top.specs.declared.asking.Call.{Call}
 use Rattle.hippo_history_top.specs.declared.asking.Excerpt.{Excerpt}
 use Rattle.hippo_history_top.specs.declared.asking.Form.{Form}
 use Rattle.hippo_history_top.specs.declared.asking.Form.TheVariants.{Listing, Script}
+use Rattle.hippo_history_top.specs.declared.asking.Layout.{Layout}
+use Rattle.hippo_history_top.specs.declared.asking.Layout.TheVariants.{Lines, Html}
 use Rattle.hippo_history_top.specs.declared.asking.Scope.{Scope}
 use Rattle.hippo_history_top.specs.declared.asking.Scope.TheVariants.{Whole, Table}
 use Rattle.hippo_history_top.specs.declared.asking.View.{View}
@@ -169,16 +171,16 @@ abbrev pub patient_number : Txt → Option ℤ
 patient_number word =
     then_some (is_signed_in signed_numbers.0 signed_numbers.1 word) (signed_digits_value 10 word)
 
-abbrev pub inquiry_for : Format → Bound → Bound → ℤ → View
-inquiry_for format first last patient =
-    Patient (record { patient = patient; first = first; last = last; format = format })
+abbrev pub inquiry_for : Layout → Bound → Bound → ℤ → View
+inquiry_for layout first last patient =
+    Patient (record { patient = patient; first = first; last = last; layout = layout })
 
 -- what was disclosed of the patient with the number in a word
-abbrev pub inquiry_view : List Row → Format → Txt → Option View
-inquiry_view rows format word =
+abbrev pub inquiry_view : List Row → Layout → Txt → Option View
+inquiry_view rows layout word =
     option_and_then
     (λ first. option_and_then
-    (λ last. option_map (inquiry_for format first last) (patient_number word)) (last_in rows))
+    (λ last. option_map (inquiry_for layout first last) (patient_number word)) (last_in rows))
     (first_in rows)
 
 -- the rules, the authorizations, the digest or the entries
@@ -191,7 +193,7 @@ listing_in rows format scope =
 
 abbrev pub view_in : List Row → Format → Scope → Option View
 view_in rows format scope =
-    option_map_or (inquiry_view rows format) (first_of (codes "patient") rows)
+    option_map_or (inquiry_view rows (Lines format)) (first_of (codes "patient") rows)
     (listing_in rows format scope)
 
 abbrev pub call_with : List Row → View → Call
@@ -205,10 +207,23 @@ call_in_format rows format =
     then option_map (call_with rows)
     (option_and_then (view_in rows format) (scope_of (first_of (codes "table") rows))) else None
 
+-- whether a page is asked for; a page shows what was disclosed of a patient
+abbrev pub is_html : List Row → Bool
+is_html rows =
+    option_map_or (λ text. bytes_eq text (codes "html")) (first_of (codes "format") rows) false
+
+abbrev pub page_call : List Row → Option Call
+page_call rows =
+    option_map (call_with rows)
+    (option_and_then (inquiry_view rows Html) (first_of (codes "patient") rows))
+
 -- what is asked for by words that the command takes
+abbrev pub showing_asked : List Row → Option Call
+showing_asked rows =
+    if is_html rows then page_call rows else option_and_then (call_in_format rows) (format_in rows)
+
 abbrev pub showing_call : List Row → Option Call
-showing_call rows =
-    if options_fit rows then option_and_then (call_in_format rows) (format_in rows) else None
+showing_call rows = if options_fit rows then showing_asked rows else None
 
 -- what the words of a call ask for, if anything
 unfoldable pub asked_of : List Txt → Option Call

@@ -31,7 +31,7 @@ use Rattle.hippo_history_top.specs.Dating.{is_from, is_to, entries_to, moments_o
 use Rattle.hippo_history_top.specs.Granting.{grants_of, grants_shown}
 use Rattle.hippo_history_top.specs.Ruling.{rules_shown}
 use Rattle.hippo_history_top.specs.Digests.{digest_shown}
-use Rattle.hippo_history_top.specs.Inquiring.{accesses_asked, accesses_shown}
+use Rattle.hippo_history_top.specs.Inquiring.{accesses_asked, inquiry_shown}
 
 -- whether a text is a question that names this table in FROM
 abbrev pub is_question_of : KnownNames → Name → Txt → Bool
@@ -127,4 +127,4 @@ shown_text (Users roster) history =
     grants_shown roster.format (grants_of (entries_to roster.last history))
 shown_text (Digest last) history = digest_shown (take last history)
 shown_text (Patient inquiry) history =
-    accesses_shown inquiry.format (accesses_asked inquiry history)
+    inquiry_shown inquiry (accesses_asked inquiry history)

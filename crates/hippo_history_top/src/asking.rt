@@ -65,6 +65,15 @@ pub struct Roster {
     pub format: Format,
 }
 
+/// How it is shown what was disclosed of a patient.
+#[derive(Clone, Copy, PartialEq, Eq)]
+pub enum Layout {
+    /// One line for each access, in a format.
+    Lines(Format),
+    /// An HTML page.
+    Html,
+}
+
 /// What was disclosed of a patient by the questions of a stretch of entries, and how it is shown.
 #[derive(Drop)]
 pub struct Inquiry {
@@ -73,7 +82,7 @@ pub struct Inquiry {
     /// Where the stretch of entries begins; `last` is where it ends. Both ends belong to it.
     pub first: Bound,
     pub last: Bound,
-    pub format: Format,
+    pub layout: Layout,
 }
 
 /// What is shown of a history.

@@ -25,7 +25,7 @@ mod stores;
 mod top;
 mod users;
 
-pub use asking::{Acts, Bound, Call, Excerpt, Form, Inquiry, Page, Roster, Scope, View};
+pub use asking::{Acts, Bound, Call, Excerpt, Form, Inquiry, Layout, Page, Roster, Scope, View};
 pub use program::History;
 pub use reading::asked_of;
 pub use stores::Stores;

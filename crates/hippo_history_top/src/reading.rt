@@ -1,12 +1,13 @@
 //! What the words of a call ask for.
 ghost use Rattle.std.specs.Prelude.{◌≡◌, ◌||◌, not, codes, map, is_some, option_map, option_and_then, IfOk};
 ghost use Rattle.clap.specs.Words.{first_of, rows_of, found_of};
-ghost use Rattle.hippo_program_args.specs.Arguments.{FindsMatches};
+ghost use Rattle.hippo_program_args.specs.Arguments.{FindsMatches, format_in};
+ghost use Rattle.hippo_history_top.specs.declared.asking.Layout.TheVariants.{Html};
 ghost use Rattle.hippo_history_top.specs.declared.asking.View.TheVariants.{Digest};
-ghost use Rattle.hippo_history_top.specs.CommandLine.{showing_command_line, is_on, has_end, entry_fits, has_form, is_page, page_fits, users_fit, bound_fits, has_selection, digest_fits, has_other_view, patient_fits, options_fit, scope_of, is_text_format, format_fits, shown_form, acts_in, excerpt_view, page_end, page_to, roster_to, number_given, inquiry_view, listing_in, view_in, call_with, call_in_format, showing_call, asked_of};
+ghost use Rattle.hippo_history_top.specs.CommandLine.{showing_command_line, is_on, has_end, entry_fits, has_form, is_page, page_fits, users_fit, bound_fits, has_selection, digest_fits, has_other_view, patient_fits, options_fit, scope_of, is_text_format, format_fits, shown_form, acts_in, excerpt_view, page_end, page_to, roster_to, number_given, inquiry_view, listing_in, view_in, call_with, call_in_format, is_html, page_call, showing_call, asked_of};
 
 use crate::arguments::{ARGUMENTS, is_on};
-use crate::asking::{Acts, Call, Excerpt, Form, Inquiry, Page, Roster, Scope, View};
+use crate::asking::{Acts, Call, Excerpt, Form, Inquiry, Layout, Page, Roster, Scope, View};
 use crate::bounds::{first_in, last_in, number_given, page_end};
 use crate::patients::patient_number;
 use clap::ArgMatches;
@@ -225,8 +226,8 @@ fn digest_of(matches: &ArgMatches<'_>) -> Option<View>
     Some(View::Digest(number_given(matches, "to")?))
 }
 
-fn inquiry_of(matches: &ArgMatches<'_>, format: Format, word: &str) -> Option<View>
-    ensures { result ≡ inquiry_view (rows_of (found_of matches.now)) format word.now }
+fn inquiry_of(matches: &ArgMatches<'_>, layout: Layout, word: &str) -> Option<View>
+    ensures { result ≡ inquiry_view (rows_of (found_of matches.now)) layout word.now }
 {
     let first = first_in(matches)?;
     let last = last_in(matches)?;
@@ -235,7 +236,7 @@ fn inquiry_of(matches: &ArgMatches<'_>, format: Format, word: &str) -> Option<Vi
         patient,
         first,
         last,
-        format,
+        layout,
     }))
 }
 
@@ -258,7 +259,7 @@ fn view_of(matches: &ArgMatches<'_>, format: Format, scope: Scope) -> Option<Vie
 {
     match text_of(matches, "patient") {
         None => listing_of(matches, format, scope),
-        Some(word) => inquiry_of(matches, format, word),
+        Some(word) => inquiry_of(matches, Layout::Lines(format), word),
     }
 }
 
@@ -293,15 +294,52 @@ fn asked_by(alloc: Global, matches: &ArgMatches<'_>, format: Format) -> Result<O
     }
 }
 
+fn is_html(matches: &ArgMatches<'_>) -> bool
+    ensures { result ≡ is_html (rows_of (found_of matches.now)) }
+{
+    match text_of(matches, "format") {
+        None => false,
+        Some(text) => text == "html",
+    }
+}
+
+fn page_of_patient(matches: &ArgMatches<'_>) -> Option<View>
+    ensures { result ≡ option_and_then (inquiry_view (rows_of (found_of matches.now)) Html)
+        (first_of (codes "patient") (rows_of (found_of matches.now))) }
+{
+    inquiry_of(matches, Layout::Html, text_of(matches, "patient")?)
+}
+
+fn page_asked(alloc: Global, matches: &ArgMatches<'_>) -> Result<Option<Call>, Memory>
+    ensures { IfOk result (λ call. call ≡ page_call (rows_of (found_of matches.now))) }
+{
+    match page_of_patient(matches) {
+        None => Ok(None),
+        Some(view) => Ok(Some(call_with(alloc, matches, view)?)),
+    }
+}
+
+fn lines_asked(alloc: Global, matches: &ArgMatches<'_>) -> Result<Option<Call>, Memory>
+    ensures { IfOk result (λ call. call ≡ option_and_then
+        (call_in_format (rows_of (found_of matches.now)))
+        (format_in (rows_of (found_of matches.now)))) }
+{
+    match format_of(matches) {
+        None => Ok(None),
+        Some(format) => asked_by(alloc, matches, format),
+    }
+}
+
 fn asked_with(alloc: Global, matches: &ArgMatches<'_>) -> Result<Option<Call>, Memory>
     ensures { IfOk result (λ call. call ≡ showing_call (rows_of (found_of matches.now))) }
 {
     if !fits(matches) {
         return Ok(None);
     }
-    match format_of(matches) {
-        None => Ok(None),
-        Some(format) => asked_by(alloc, matches, format),
+    if is_html(matches) {
+        page_asked(alloc, matches)
+    } else {
+        lines_asked(alloc, matches)
     }
 }
 
@@ -322,7 +360,8 @@ fn asked_in(alloc: Global, words: &[&str]) -> Result<Option<Call>, Memory>
 ///
 /// - a word is unknown, or an option occurs twice;
 /// - a number is out of its bounds; the word after `--from`, `--to` or `--at` is neither a number nor
-///   a moment; a table's name is not a name; or a format is not one of the three;
+///   a moment; a table's name is not a name; or a format is not one of the three,
+///   nor `html` with `--patient`;
 /// - `--entry` is given with `--from` or `--to`;
 /// - `--rules` or `--users` is given with `--from`, `--to`, `--tables` or `--script`;
 /// - `--users` is given with `--rules` or `--table`;
@@ -347,6 +386,7 @@ fn asked_in(alloc: Global, words: &[&str]) -> Result<Option<Call>, Memory>
 /// --store clinic.db --digest --to 17
 /// --store clinic.db --patient 2
 /// --store clinic.db --patient=-5 --from 2024-03-04T00:00:00Z --format csv
+/// --store clinic.db --patient 2 --format html
 /// ```
 pub fn asked_of(alloc: Global, words: &[Txt]) -> Result<Option<Call>, Memory>
     ensures { IfOk result (λ call. call ≡ asked_of words.now) }

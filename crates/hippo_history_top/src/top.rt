@@ -13,7 +13,7 @@ ghost use Rattle.hippo_history_top.specs.declared.asking.View.TheVariants.{Rules
 ghost use Rattle.hippo_history_top.specs.Damage.{ShowsToDamage, BeginsToDamage};
 ghost use Rattle.hippo_history_top.specs.Dating.{count_to, dated_line};
 ghost use Rattle.hippo_history_top.specs.Granting.{grants_shown};
-ghost use Rattle.hippo_history_top.specs.Inquiring.{accesses_shown, KnowsPast};
+ghost use Rattle.hippo_history_top.specs.Inquiring.{inquiry_shown, KnowsPast};
 ghost use Rattle.hippo_history_top.specs.Ruling.{rules_by_names};
 ghost use Rattle.hippo_history_top.specs.Progress.{IsReadable, WritesPage, ShowsLoaded};
 ghost use Rattle.hippo_history_top.specs.declared.asking.Call.{Call as AskedCall};
@@ -26,7 +26,7 @@ ghost use Rattle.hippo_history_top.specs.Saying.{showing_usage, missing_line, Wr
 use crate::asking::{Inquiry, Page, Roster, View};
 use crate::damage::show_damaged;
 use crate::digest::show_digest;
-use crate::disclosing::{Sought, append_accesses};
+use crate::disclosing::{Sought, append_inquired};
 use crate::endings::{ending_of, served_or};
 use crate::gathering::gather_all;
 use crate::moments::Moments;
@@ -144,15 +144,15 @@ fn show_users<K: Sink, P: CountedKeeper<L>, L: Ledger>(
 // Writes what was disclosed of a patient.
 fn write_accesses<K: Sink>(
     alloc: Global,
-    format: Format,
+    inquiry: &Inquiry,
     accesses: &[Access],
     sink: &mut K,
 ) -> Option<Ending>
-    ensures writes { Writes (accesses_shown format accesses.now) result
+    ensures writes { Writes (inquiry_shown inquiry.now accesses.now) result
         (K.written sink.old) (K.written sink.new) (K.faults sink.old) (K.faults sink.new) }
 {
     let mut lines = Txt::new(alloc);
-    match append_accesses(alloc, format, accesses, &mut lines) {
+    match append_inquired(alloc, inquiry, accesses, &mut lines) {
         Ok(()) => write_lines(sink, lines.as_str()),
         Err(Memory) => Some(Ending::NoMemory),
     }
@@ -175,7 +175,7 @@ fn show_sought<K: Sink, P: CountedKeeper<L>, L: Ledger>(
     let inquiry = sought.inquiry;
     let mut found = Disclosures::new(alloc, inquiry.patient);
     match gather_all(alloc, sought, &mut found, keeper, steps) {
-        Ok(()) => served_or(write_accesses(alloc, inquiry.format, found.accesses(), sink)),
+        Ok(()) => served_or(write_accesses(alloc, inquiry, found.accesses(), sink)),
         Err(fault) => ending_of(fault),
     }
 }

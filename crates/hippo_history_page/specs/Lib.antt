@@ -1,0 +1,4 @@
+pub mod Escapes
+pub mod Words
+pub mod Counts
+pub mod Pages
