@@ -4,3 +4,4 @@ mod LeaveLemmas
 pub mod LeftLemmas
 mod CarryExamples
 pub mod WordLemmas
+mod RowLemmas

@@ -1,10 +1,12 @@
 -- The history that is carried on has the same present as the old one.
-use Rattle.std.specs.Prelude.{◌≡◌, ℤ, option_map}
+use Rattle.std.specs.Prelude.{◌≡◌, ℤ, true, Some, option_map}
 use Rattle.hippo_values.specs.declared.names.Name.{Name}
+use Rattle.hippo_model.specs.declared.schema.Schema.{Schema}
 use Rattle.hippo_model.specs.Histories.{schema_at, item_at}
+use Rattle.hippo_model.specs.Rows.{born_row_at}
 use Rattle.hippo_model.specs.Rules.{Rule, allowed, revoked, rule_at, choice_at, authorized_at}
-use Rattle.hippo_model.specs.Terms.{History, Place}
-use Rattle.hippo_model.specs.Validity.{is_purpose, is_recipient, is_authorized}
+use Rattle.hippo_model.specs.Terms.{History, Key, Meaning, Place}
+use Rattle.hippo_model.specs.Validity.{is_purpose, is_recipient, is_authorized, is_valid}
 use Rattle.hippo_history_carry.specs.Carrying.{carried}
 
 -- the same tables, items, purposes and recipients
@@ -39,3 +41,10 @@ CarriesRules =
     (history : History) (purpose recipient table : Name) (column : Place)
     → option_map without_number (rule_at (carried history) purpose recipient table column)
     ≡ option_map without_number (rule_at history purpose recipient table column)
+
+-- in each table and under each key the same row, with its birth, or none
+abbrev pub CarriesRows : Type 0
+CarriesRows =
+    (meaning : Meaning) (history : History) → is_valid meaning history ≡ true
+    → (table : Name) (schema : Schema) → schema_at history table ≡ Some schema
+    → (key : Key) → born_row_at schema (carried history) key ≡ born_row_at schema history key
