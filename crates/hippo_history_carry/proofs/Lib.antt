@@ -5,3 +5,4 @@ pub mod LeftLemmas
 mod CarryExamples
 pub mod WordLemmas
 mod RowLemmas
+mod VerdictLemmas

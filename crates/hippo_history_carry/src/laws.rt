@@ -1,5 +1,5 @@
 //! Laws on what is carried on: the new history has the same present as the old one.
-ghost use Rattle.hippo_history_carry.specs.CarryLaws.{CarriesNames, CarriesChoices, CarriesUsers, CarriesRules, CarriesRows};
+ghost use Rattle.hippo_history_carry.specs.CarryLaws.{CarriesNames, CarriesChoices, CarriesUsers, CarriesRules, CarriesRows, CarriesVerdicts};
 
 /// The same tables, items, purposes and recipients exist.
 pub fn carries_names()
@@ -24,4 +24,9 @@ pub fn carries_rules()
 /// Each table of a valid history has the same rows, with the same births.
 pub fn carries_rows()
     ensures { CarriesRows }
+{}
+
+/// For each purpose, recipient and moment, the same cells of a row are shown.
+pub fn carries_verdicts()
+    ensures { CarriesVerdicts }
 {}
