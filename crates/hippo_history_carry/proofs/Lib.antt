@@ -4,3 +4,5 @@ mod LeaveLemmas
 pub mod LeftLemmas
 mod CarryExamples
 pub mod WordLemmas
+mod RowLemmas
+mod VerdictLemmas
