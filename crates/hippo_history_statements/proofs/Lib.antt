@@ -1,3 +1,3 @@
-mod SetPlaces
+pub mod SetPlaces
 mod PairLemmas
 mod TellingExamples

@@ -1,5 +1,5 @@
 -- The statement that made an entry, spelled as a user would type it.
-use Rattle.std.specs.Prelude.{ℕ, ℤ, ◌++◌, Bool, true, false, not, List, [], filter, length, nat_eq, slice_get, Option, Some, None, option_and_then, codes, decimal}
+use Rattle.std.specs.Prelude.{ℕ, ℤ, ◌++◌, Bool, true, false, not, List, [], ◌∷◌, filter, length, nat_eq, slice_get, Option, Some, None, option_and_then, codes, decimal}
 use Rattle.std.specs.Fmt.{signed_decimal}
 use Rattle.std.specs.List.{list_any, range_with_len, zip}
 use Rattle.std.specs.Option.{option_map_or}
@@ -97,6 +97,12 @@ abbrev pub update_text : List Column → List Place → Name → Row → Txt
 update_text columns key table row =
     codes "UPDATE " ++ (table ++ (codes " SET "
     ++ (row_text columns row comma (set_places columns key)
+    ++ (codes " WHERE " ++ row_text columns row (codes " AND ") key))))
+
+-- an UPDATE that sets one column
+abbrev pub set_text : List Column → List Place → Name → Row → Place → Txt
+set_text columns key table row place =
+    codes "UPDATE " ++ (table ++ (codes " SET " ++ (row_text columns row comma (place ∷ [])
     ++ (codes " WHERE " ++ row_text columns row (codes " AND ") key))))
 
 abbrev pub delete_text : List Column → List Place → Name → Key → Txt

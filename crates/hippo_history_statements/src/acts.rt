@@ -1,7 +1,7 @@
 //! The statement that made an act.
 ghost use Rattle.std.specs.Prelude.{◌≡◌, ◌++◌, option_copied, OnOk, OnErr};
 ghost use Rattle.hippo_values_text.specs.Printing.{AppendsText};
-ghost use Rattle.hippo_history_statements.specs.Telling.{act_statement, table_named};
+ghost use Rattle.hippo_history_statements.specs.Telling.{act_statement, table_named, set_text};
 
 use crate::columns::{append_named, columns_of};
 use crate::rows::Version;
@@ -9,7 +9,7 @@ use crate::rules::{
     Rule, append_allow, append_asked, append_choice, append_grant, append_item, append_rule,
 };
 use crate::tables::append_create;
-use hippo_model::{Act, Schema};
+use hippo_model::{Act, Cells, Schema};
 use hippo_values::{Memory, Name, RoomyTxt};
 use std::alloc::Global;
 
@@ -101,6 +101,27 @@ pub fn append_act_statement<const ROOM: usize>(
 {
     let length = out.as_str().len();
     let told = append_act(alloc, schema, act, out);
+    if told.is_err() {
+        out.truncate(length);
+    }
+    told
+}
+
+/// Appends an UPDATE that sets one column of the row with this row's key to its value. When out of
+/// memory, the text is unchanged.
+pub fn append_set_statement<const ROOM: usize>(
+    schema: &Schema,
+    table: &Name,
+    row: &Cells,
+    place: usize,
+    out: &mut RoomyTxt<ROOM>,
+) -> Result<(), Memory>
+    ensures ok { OnOk result (out.new ≡ out.old
+        ++ set_text schema.now.columns schema.now.key table.now row.now place) }
+    ensures err { OnErr result (out.new ≡ out.old) }
+{
+    let length = out.as_str().len();
+    let told = Version::new(Some(schema), table, row).set(place, out);
     if told.is_err() {
         out.truncate(length);
     }

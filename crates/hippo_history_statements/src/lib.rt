@@ -10,6 +10,6 @@ mod rows;
 mod rules;
 mod tables;
 
-pub use acts::{append_act_statement, table_named};
+pub use acts::{append_act_statement, append_set_statement, table_named};
 pub use entries::entry_line;
 pub use rules::{Rule, append_allow, append_rule};

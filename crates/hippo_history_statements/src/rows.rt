@@ -2,7 +2,7 @@
 ghost use Rattle.std.specs.Prelude.{◌≡◌, ◌++◌, filter, flat_map, nat_eq, option_copied, IfOk, OnOk, OnErr};
 ghost use Rattle.std.specs.List.{list_any, range_with_len, zip};
 ghost use Rattle.hippo_values_text.specs.Printing.{AppendsText, KeepsFront};
-ghost use Rattle.hippo_history_statements.specs.Telling.{is_set, assigned_text, literals_text, columns_of, key_places, row_text, key_text, insert_text, update_text, delete_text};
+ghost use Rattle.hippo_history_statements.specs.Telling.{is_set, assigned_text, literals_text, columns_of, key_places, row_text, key_text, insert_text, update_text, delete_text, set_text};
 
 use crate::columns::{append_assigned, append_named, columns_of};
 use crate::joining::{Spelling, append_joined};
@@ -202,6 +202,20 @@ impl<'a> Version<'a> {
         let places = set_places(alloc, self.columns.len(), self.key)?;
         append_named("UPDATE ", self.table, out)?;
         self.append_cells(" SET ", places.as_slice(), ", ", out)?;
+        self.append_cells(" WHERE ", self.key, " AND ", out)
+    }
+
+    /// Appends an UPDATE that sets one column to the row's value.
+    pub fn set<const ROOM: usize>(
+        &self,
+        place: usize,
+        out: &mut RoomyTxt<ROOM>,
+    ) -> Result<(), Memory>
+        ensures adds { AppendsText (set_text self.now.columns.now self.now.key.now
+            self.now.table.now self.now.cells.now place) result out.old out.new }
+    {
+        append_named("UPDATE ", self.table, out)?;
+        self.append_cells(" SET ", &[place], ", ", out)?;
         self.append_cells(" WHERE ", self.key, " AND ", out)
     }
 

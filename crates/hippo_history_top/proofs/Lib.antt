@@ -13,6 +13,8 @@ mod FrontLemmas
 mod DamageLemmas
 mod GatherLemmas
 mod GatheredLemmas
+mod CarryLemmas
+mod CarryLoops
 mod InquiryLemmas
 mod MomentLemmas
 mod NumberLemmas

@@ -13,11 +13,8 @@ use Rattle.hippo_history_top.specs.declared.asking.Excerpt.{Excerpt}
 use Rattle.hippo_history_top.specs.declared.asking.Form.{Form}
 use Rattle.hippo_history_top.specs.declared.asking.Form.TheVariants.{Listing, Script}
 use Rattle.hippo_history_formats.specs.Formats.{entry_by}
+pub use Rattle.hippo_history_top.specs.ScriptLines.{schema_named}
 use Rattle.hippo_history_top.specs.Showing.{is_in_excerpt, act_lines, clock_line, entry_where, clock_where, entries_where}
-
--- the schema of the table that an act names
-abbrev pub schema_named : KnownNames → Act → Option Schema
-schema_named known act = option_and_then (table_of known) (table_named act)
 
 -- an entry as it is shown
 abbrev pub shown_as : KnownNames → Form → Option Moment → Entry → Txt

@@ -25,7 +25,7 @@ use Rattle.hippo_history_top.specs.declared.asking.Layout.TheVariants.{Lines, Ht
 use Rattle.hippo_history_top.specs.declared.asking.Scope.{Scope}
 use Rattle.hippo_history_top.specs.declared.asking.Scope.TheVariants.{Whole, Table}
 use Rattle.hippo_history_top.specs.declared.asking.View.{View}
-use Rattle.hippo_history_top.specs.declared.asking.View.TheVariants.{Entries, Rules, Users, Digest, Patient}
+use Rattle.hippo_history_top.specs.declared.asking.View.TheVariants.{Entries, Rules, Users, Digest, Patient, Carry}
 
 -- the command, as clap is given it
 abbrev pub showing_command_line : App
@@ -34,6 +34,7 @@ showing_command_line = command_with (codes "hippo_history")
     ∷ text_option (codes "to") ∷ text_option (codes "at") ∷ text_option (codes "table")
     ∷ flag (codes "tables") ∷ flag (codes "script") ∷ flag (codes "rules")
     ∷ flag (codes "users") ∷ flag (codes "digest") ∷ text_option (codes "patient")
+    ∷ flag (codes "carry")
     ∷ text_option (codes "format") ∷ [])
 
 -- whether a flag, a name without a value, is given
@@ -105,20 +106,31 @@ digest_fits rows =
     not (is_on (codes "digest") rows
     && (has_selection rows || has_form rows || is_page rows))
 
+abbrev pub has_view : List Row → Bool
+has_view rows = has_form rows || is_page rows || is_on (codes "digest") rows
+
 -- what was disclosed of a patient is asked for over a range; it cannot be combined with anything
 -- else
 abbrev pub has_other_view : List Row → Bool
 has_other_view rows =
     is_some (first_of (codes "entry") rows) || is_some (first_of (codes "table") rows)
-    || has_form rows || is_page rows || is_on (codes "digest") rows
+    || has_view rows
 
 abbrev pub patient_fits : List Row → Bool
 patient_fits rows = not (is_some (first_of (codes "patient") rows) && has_other_view rows)
+
+-- the lines that carry a history on are asked for alone
+abbrev pub carry_fits : List Row → Bool
+carry_fits rows =
+    not (is_on (codes "carry") rows
+    && (has_selection rows || is_some (first_of (codes "to") rows) || has_view rows
+    || is_some (first_of (codes "patient") rows)))
 
 abbrev pub options_fit : List Row → Bool
 options_fit rows =
     entry_fits rows && page_fits rows && users_fit rows && bound_fits rows && digest_fits rows
     && patient_fits rows
+    && carry_fits rows
 
 -- the table whose entries or rules are shown; `None` if the word is not a name
 abbrev pub scope_of : Option Txt → Option Scope
@@ -189,6 +201,7 @@ listing_in rows format scope =
     if is_on (codes "rules") rows then option_map (page_to format scope) (page_end rows)
     else if is_on (codes "users") rows then option_map (roster_to format) (page_end rows)
     else if is_on (codes "digest") rows then option_map Digest (number_given (codes "to") rows)
+    else if is_on (codes "carry") rows then Some Carry
     else excerpt_view rows format scope
 
 abbrev pub view_in : List Row → Format → Scope → Option View

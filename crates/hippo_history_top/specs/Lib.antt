@@ -5,6 +5,8 @@ pub mod Ruling
 pub mod Dating
 pub mod Granting
 pub mod Digests
+pub mod ScriptLines
+pub mod CarryingOn
 pub mod Showing
 pub mod ByNames
 pub mod Progress

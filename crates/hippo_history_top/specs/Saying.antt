@@ -10,7 +10,8 @@ use Rattle.hippo_program_args.specs.declared.endings.Ending.TheVariants.{WriteFa
 unfoldable pub showing_usage : Txt
 showing_usage =
     codes "usage: hippo_history --store NAME [--entry N | --at N|MOMENT | [--from N|MOMENT] [--to N|MOMENT]] [--table NAME]"
-    ++ codes " [--rules | --users | --digest | --patient N | [--tables] [--script]] [--format text|json|csv|html]\n"
+    ++ codes " [--rules | --users | --digest | --patient N | --carry | [--tables] [--script]]"
+    ++ codes " [--format text|json|csv|html]\n"
 
 -- there is no store with the name in the words
 unfoldable pub missing_line : Txt

@@ -25,13 +25,15 @@ use Rattle.hippo_history_top.specs.declared.asking.Form.TheVariants.{Listing, Sc
 use Rattle.hippo_history_top.specs.declared.asking.Scope.{Scope}
 use Rattle.hippo_history_top.specs.declared.asking.Scope.TheVariants.{Whole, Table}
 use Rattle.hippo_history_top.specs.declared.asking.View.{View}
-use Rattle.hippo_history_top.specs.declared.asking.View.TheVariants.{Entries, Rules, Users, Digest, Patient}
+use Rattle.hippo_history_top.specs.declared.asking.View.TheVariants.{Entries, Rules, Users, Digest, Patient, Carry}
 use Rattle.hippo_history_formats.specs.Formats.{entry_by}
 use Rattle.hippo_history_top.specs.Dating.{is_from, is_to, entries_to, moments_of, dated_line}
 use Rattle.hippo_history_top.specs.Granting.{grants_of, grants_shown}
 use Rattle.hippo_history_top.specs.Ruling.{rules_shown}
 use Rattle.hippo_history_top.specs.Digests.{digest_shown}
 use Rattle.hippo_history_top.specs.Inquiring.{accesses_asked, inquiry_shown}
+pub use Rattle.hippo_history_top.specs.ScriptLines.{console_lines, session_lines, act_lines, stands_at, clock_line}
+use Rattle.hippo_history_top.specs.CarryingOn.{carrying_lines}
 
 -- whether a text is a question that names this table in FROM
 abbrev pub is_question_of : KnownNames → Name → Txt → Bool
@@ -63,29 +65,6 @@ abbrev pub is_in_excerpt : KnownNames → Excerpt → Entry → Bool
 is_in_excerpt known excerpt entry =
     is_from excerpt.first entry && is_to excerpt.last entry && is_of excerpt.acts entry.act
     && is_in_scope known excerpt.scope entry.act
-
--- a line of the console, and then the lines of a session that asks one question
-abbrev pub console_lines : Txt → Txt
-console_lines statement = codes "0 " ++ (statement ++ codes "\n")
-
-abbrev pub session_lines : Name → Name → Name → Txt → Txt
-session_lines user purpose recipient text =
-    codes "1 login " ++ (user ++ (codes " " ++ (purpose ++ (codes " " ++ (recipient
-    ++ (codes "\n1 " ++ (text ++ codes "\n1 logout\n")))))))
-
--- the lines that repeat an act, with the schema of the table that it names
-abbrev pub act_lines : Option Schema → Act → Txt
-act_lines schema (Asked user purpose recipient text) = session_lines user purpose recipient text
-act_lines schema act = console_lines (act_statement schema act)
-
--- whether the clock is set to this moment
-abbrev pub stands_at : Option Moment → Moment → Bool
-stands_at clock moment = option_map_or (λ set. int_eq set moment) clock false
-
--- a line that sets the clock, unless it is already set to this moment
-abbrev pub clock_line : Option Moment → Moment → Txt
-clock_line clock moment =
-    if stands_at clock moment then [] else codes "at " ++ (moment_text moment ++ codes "\n")
 
 -- an entry of a history as it is shown; `clock` is the moment of the entry that was shown last
 abbrev pub told_as : History → Form → Option Moment → Entry → Txt
@@ -128,3 +107,4 @@ shown_text (Users roster) history =
 shown_text (Digest last) history = digest_shown (take last history)
 shown_text (Patient inquiry) history =
     inquiry_shown inquiry (accesses_asked inquiry history)
+shown_text Carry history = carrying_lines history

@@ -7,7 +7,7 @@ use clap::ArgMatches;
 use hippo_program_args::{Argument, text_of};
 
 /// The arguments that the command takes.
-pub(crate) const ARGUMENTS: [Argument<'static>; 13] = [
+pub(crate) const ARGUMENTS: [Argument<'static>; 14] = [
     Argument::Needed("store"),
     Argument::Entry("entry"),
     Argument::Text("from"),
@@ -20,6 +20,7 @@ pub(crate) const ARGUMENTS: [Argument<'static>; 13] = [
     Argument::Flag("users"),
     Argument::Flag("digest"),
     Argument::Text("patient"),
+    Argument::Flag("carry"),
     Argument::Text("format"),
 ];
 

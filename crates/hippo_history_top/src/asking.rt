@@ -97,6 +97,8 @@ pub enum View {
     Digest(u64),
     /// What was disclosed of a patient.
     Patient(Inquiry),
+    /// The lines that carry the history on in a new store.
+    Carry,
 }
 
 /// The name of a store, and what is shown of its history.

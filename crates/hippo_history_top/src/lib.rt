@@ -5,7 +5,9 @@
 
 mod arguments;
 mod asking;
+mod births;
 mod bounds;
+mod carrying;
 mod damage;
 mod digest;
 mod disclosing;

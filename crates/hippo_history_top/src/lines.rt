@@ -13,8 +13,8 @@ use hippo_typing_catalog::Catalog;
 use hippo_values::{Memory, Moment, Txt};
 use std::alloc::Global;
 
-// The schema of the table that an act names.
-fn schema_named<'a>(catalog: &'a Catalog, act: &Act) -> Option<&'a Schema>
+/// The schema of the table that an act names.
+pub(crate) fn schema_named<'a>(catalog: &'a Catalog, act: &Act) -> Option<&'a Schema>
     ensures { option_copied result ≡ schema_named catalog.now.names act.now }
 {
     match table_named(act) {
@@ -43,8 +43,12 @@ fn append_at(moment: &Moment, out: &mut Txt) -> Result<(), Memory>
     out.append("\n")
 }
 
-// Appends a line that sets the clock, unless it is already set to this moment.
-fn append_clock(clock: &Option<Moment>, moment: &Moment, out: &mut Txt) -> Result<(), Memory>
+/// Appends a line that sets the clock, unless it is already set to this moment.
+pub(crate) fn append_clock(
+    clock: &Option<Moment>,
+    moment: &Moment,
+    out: &mut Txt,
+) -> Result<(), Memory>
     ensures { OnOk result (out.new ≡ out.old ++ clock_line clock.now moment.now) }
 {
     if stands_at(clock, moment) {
@@ -88,9 +92,14 @@ fn append_session(question: &Question<'_>, out: &mut Txt) -> Result<(), Memory>
     out.append("\n1 logout\n")
 }
 
-// Appends the lines that repeat an act.
+/// Appends the lines that repeat an act.
 #[tactic(auto, using(crate::proofs::QuestionLemmas::statement_as_lines))]
-fn append_act(alloc: Global, catalog: &Catalog, act: &Act, out: &mut Txt) -> Result<(), Memory>
+pub(crate) fn append_act(
+    alloc: Global,
+    catalog: &Catalog,
+    act: &Act,
+    out: &mut Txt,
+) -> Result<(), Memory>
     ensures { OnOk result (out.new
         ≡ out.old ++ act_lines (schema_named catalog.now.names act.now) act.now) }
 {

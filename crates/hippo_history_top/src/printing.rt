@@ -8,7 +8,8 @@ use hippo_program_args::{Ending, say};
 
 const USAGE: &str =
     "usage: hippo_history --store NAME [--entry N | --at N|MOMENT | [--from N|MOMENT] [--to N|MOMENT]] [--table NAME] \
-     [--rules | --users | --digest | --patient N | [--tables] [--script]] [--format text|json|csv|html]\n";
+     [--rules | --users | --digest | --patient N | --carry | [--tables] [--script]] \
+     [--format text|json|csv|html]\n";
 
 const MISSING: &str = "there is no store with this name\n";
 

@@ -4,7 +4,7 @@ ghost use Rattle.clap.specs.Words.{first_of, rows_of, found_of};
 ghost use Rattle.hippo_program_args.specs.Arguments.{FindsMatches, format_in};
 ghost use Rattle.hippo_history_top.specs.declared.asking.Layout.TheVariants.{Html};
 ghost use Rattle.hippo_history_top.specs.declared.asking.View.TheVariants.{Digest};
-ghost use Rattle.hippo_history_top.specs.CommandLine.{showing_command_line, is_on, has_end, entry_fits, has_form, is_page, page_fits, users_fit, bound_fits, has_selection, digest_fits, has_other_view, patient_fits, options_fit, scope_of, is_text_format, format_fits, shown_form, acts_in, excerpt_view, page_end, page_to, roster_to, number_given, inquiry_view, listing_in, view_in, call_with, call_in_format, is_html, page_call, showing_call, asked_of};
+ghost use Rattle.hippo_history_top.specs.CommandLine.{showing_command_line, is_on, has_end, entry_fits, has_form, is_page, page_fits, users_fit, bound_fits, has_selection, digest_fits, has_other_view, patient_fits, options_fit, scope_of, is_text_format, format_fits, shown_form, acts_in, excerpt_view, page_end, page_to, roster_to, number_given, inquiry_view, listing_in, view_in, call_with, call_in_format, is_html, page_call, showing_call, asked_of, has_view, carry_fits};
 
 use crate::arguments::{ARGUMENTS, is_on};
 use crate::asking::{Acts, Call, Excerpt, Form, Inquiry, Layout, Page, Roster, Scope, View};
@@ -115,20 +115,40 @@ fn digest_fits(matches: &ArgMatches<'_>) -> bool
     !(is_on(matches, "digest") && is_of_no_digest(matches))
 }
 
+fn has_view(matches: &ArgMatches<'_>) -> bool
+    ensures { result ≡ has_view (rows_of (found_of matches.now)) }
+{
+    has_form(matches) || is_page(matches) || is_on(matches, "digest")
+}
+
 fn has_other_view(matches: &ArgMatches<'_>) -> bool
     ensures { result ≡ has_other_view (rows_of (found_of matches.now)) }
 {
-    is_there(matches, "entry")
-        || is_there(matches, "table")
-        || has_form(matches)
-        || is_page(matches)
-        || is_on(matches, "digest")
+    is_there(matches, "entry") || is_there(matches, "table") || has_view(matches)
 }
 
 fn patient_fits(matches: &ArgMatches<'_>) -> bool
     ensures { result ≡ patient_fits (rows_of (found_of matches.now)) }
 {
     !(is_there(matches, "patient") && has_other_view(matches))
+}
+
+fn is_of_no_carry(matches: &ArgMatches<'_>) -> bool
+    ensures { result ≡ (has_selection (rows_of (found_of matches.now))
+        || is_some (first_of (codes "to") (rows_of (found_of matches.now)))
+        || has_view (rows_of (found_of matches.now))
+        || is_some (first_of (codes "patient") (rows_of (found_of matches.now)))) }
+{
+    has_selection(matches)
+        || is_there(matches, "to")
+        || has_view(matches)
+        || is_there(matches, "patient")
+}
+
+fn carry_fits(matches: &ArgMatches<'_>) -> bool
+    ensures { result ≡ carry_fits (rows_of (found_of matches.now)) }
+{
+    !(is_on(matches, "carry") && is_of_no_carry(matches))
 }
 
 fn fits(matches: &ArgMatches<'_>) -> bool
@@ -140,6 +160,7 @@ fn fits(matches: &ArgMatches<'_>) -> bool
         && bound_fits(matches)
         && digest_fits(matches)
         && patient_fits(matches)
+        && carry_fits(matches)
 }
 
 fn scope_of(alloc: Global, matches: &ArgMatches<'_>) -> Result<Option<Scope>, Memory>
@@ -249,6 +270,8 @@ fn listing_of(matches: &ArgMatches<'_>, format: Format, scope: Scope) -> Option<
         roster_of(matches, format)
     } else if is_on(matches, "digest") {
         digest_of(matches)
+    } else if is_on(matches, "carry") {
+        Some(View::Carry)
     } else {
         excerpt_of(matches, format, scope)
     }
@@ -370,6 +393,7 @@ fn asked_in(alloc: Global, words: &[&str]) -> Result<Option<Call>, Memory>
 /// - `--digest` is given with anything but `--store` and `--to`, which is then a number;
 /// - `--patient` is given with anything but `--store`, `--from`, `--to` and `--format`, or the word
 ///   after it is not a number of 64 bits.
+/// - `--carry` is given with anything but `--store`.
 ///
 /// ```text
 /// --store clinic.db --entry 18
@@ -387,6 +411,7 @@ fn asked_in(alloc: Global, words: &[&str]) -> Result<Option<Call>, Memory>
 /// --store clinic.db --patient 2
 /// --store clinic.db --patient=-5 --from 2024-03-04T00:00:00Z --format csv
 /// --store clinic.db --patient 2 --format html
+/// --store clinic.db --carry
 /// ```
 pub fn asked_of(alloc: Global, words: &[Txt]) -> Result<Option<Call>, Memory>
     ensures { IfOk result (λ call. call ≡ asked_of words.now) }

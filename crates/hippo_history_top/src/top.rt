@@ -24,6 +24,7 @@ ghost use Rattle.hippo_history_top.specs.Outcomes.{ShowsView, BeginsView, Ends};
 ghost use Rattle.hippo_history_top.specs.Saying.{showing_usage, missing_line, Writes, CountsWrites};
 
 use crate::asking::{Inquiry, Page, Roster, View};
+use crate::carrying::show_carried;
 use crate::damage::show_damaged;
 use crate::digest::show_digest;
 use crate::disclosing::{Sought, append_inquired};
@@ -244,6 +245,7 @@ pub(crate) fn show_view<K: Sink, P: CountedKeeper<L>, L: Ledger>(
             state.close();
             ending
         }
+        View::Carry => show_carried(alloc, state, sink, keeper, steps),
     }
 }
 

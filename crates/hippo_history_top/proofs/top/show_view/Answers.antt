@@ -43,6 +43,15 @@ returns-in-Digest g c = record {
       (c.show_digest.ensures.shows c.args.state);
 }
 
+pub returns-in-Carry : goal.returns-in-Carry
+returns-in-Carry g c = record {
+  shows = subst
+      (λ (view : View). ShowsLoaded c.args.state view c.show_carried.result (g.P.Keeper.state c.args.keeper.now) (g.P.Keeper.state c.show_carried.new.keeper)
+      (g.K.Sink.written c.args.sink.now) (g.K.Sink.written c.show_carried.new.sink) (g.K.Sink.faults c.args.sink.now) (g.K.Sink.faults c.show_carried.new.sink) c.args.steps.now c.show_carried.new.steps)
+      (sym c.in-Carry.is)
+      c.show_carried.ensures.shows;
+}
+
 pub returns-in-Patient : goal.returns-in-Patient
 returns-in-Patient g c = record {
   shows = subst
