@@ -1,4 +1,3 @@
-mod ColumnLemmas
 mod ListingLemmas
 mod VersionCounts
 mod QuestionLemmas

@@ -1,13 +1,10 @@
 -- How the denied cells of rows are listed.
-use Rattle.std.specs.Prelude.{◌≡◌, ◌<◌, ℕ, Bool, List, ◌++◌, length, take, filter, filter_map, flat_map, Result, Ok, Err}
+use Rattle.std.specs.Prelude.{◌≡◌, ◌<◌, ℕ, List, ◌++◌, length, take, filter, filter_map, flat_map, Result, Ok, Err}
 use Rattle.std.specs.List.{enumerate_from}
-use Rattle.hippo_values.specs.declared.names.Name.{Name}
 use Rattle.hippo_model.specs.declared.born_row.BornRow.{BornRow}
 use Rattle.hippo_model.specs.declared.query.Query.{Query}
-use Rattle.hippo_model.specs.declared.query.Ref.{Ref}
 use Rattle.hippo_model.specs.declared.schema.Column.{Column}
 use Rattle.hippo_model.specs.declared.schema.Schema.{Schema}
-use Rattle.hippo_model.specs.Columns.{named_column, same_column}
 use Rattle.hippo_model.specs.Denials.{Denial, is_listed, denial_by}
 use Rattle.hippo_model.specs.Terms.{History, Place}
 use Rattle.hippo_model.specs.Verdicts.{Context, verdict}
@@ -18,10 +15,6 @@ use Rattle.hippo_audit_explain.specs.declared.faults.DenialsFault.TheVariants.{R
 use Rattle.hippo_audit_explain.specs.declared.faults.ListFault.{ListFault}
 use Rattle.hippo_audit_explain.specs.declared.faults.ListFault.TheVariants as lists
 use Rattle.hippo_audit_explain.specs.declared.rows.RulesThen.{RulesThen}
-
--- whether a reference in a statement is to this column
-abbrev pub refers_to : List Name → Name × Place → Ref → Bool
-refers_to tables column reference = same_column column (named_column tables reference)
 
 -- the columns of a table that EXPLAIN lists for a query, with their places
 abbrev pub denial_columns : Query → Schema → List (Place × Column)

@@ -1,4 +1,3 @@
-pub mod NamedColumns
 pub mod StretchLemmas
 pub mod AuditLemmas
 pub mod CountLemmas

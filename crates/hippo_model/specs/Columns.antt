@@ -5,28 +5,19 @@ use Rattle.hippo_values.specs.declared.names.Name.{Name}
 use Rattle.hippo_model.specs.declared.query.Ref.{Ref}
 use Rattle.hippo_model.specs.declared.query.Operand.{Operand}
 use Rattle.hippo_model.specs.declared.query.Operand.TheVariants.{Column, Literal}
-use Rattle.hippo_model.specs.declared.query.CondOf.{CondOf, CondOf-F, fold-CondOf}
-use Rattle.hippo_model.specs.declared.query.CondOf.TheOpen.{All, Any, Not, Compare, Between, Among, Missing}
+use Rattle.hippo_model.specs.declared.query.CondOf.{CondOf}
 use Rattle.hippo_model.specs.declared.query.Query.{Query}
 use Rattle.hippo_model.specs.declared.audit.Audit.{Audit}
 use Rattle.hippo_model.specs.Terms.{Place}
+use Rattle.hippo_model.specs.Conditions.{operands}
 
 abbrev pub columns_in : Operand → List Ref
 columns_in (Column column) = column ∷ []
 columns_in (Literal value) = []
 
--- the columns of a condition, given those of its parts
-abbrev pub columns_layer : CondOf-F Operand (List Ref) → List Ref
-columns_layer (All parts) = flat_map (λ columns. columns) parts
-columns_layer (Any parts) = flat_map (λ columns. columns) parts
-columns_layer (Not part) = part
-columns_layer (Compare op left right) = columns_in left ++ columns_in right
-columns_layer (Between operand low high) = columns_in operand ++ columns_in low ++ columns_in high
-columns_layer (Among operand list) = columns_in operand ++ flat_map columns_in list
-columns_layer (Missing operand) = columns_in operand
-
+-- the columns of a condition's operands
 abbrev pub condition_columns : CondOf Operand → List Ref
-condition_columns condition = fold-CondOf Operand (List Ref) columns_layer condition
+condition_columns condition = flat_map columns_in (operands condition)
 
 -- a column, as its table's name and its index in the table
 abbrev pub named_column : List Name → Ref → Name × Place

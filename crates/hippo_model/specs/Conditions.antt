@@ -1,5 +1,5 @@
 -- SQL's three-valued truth of a condition.
-use Rattle.std.specs.Prelude.{Bool, true, false, List, [], ◌∷◌, map}
+use Rattle.std.specs.Prelude.{Bool, true, false, List, [], ◌∷◌, map, flat_map}
 use Rattle.hippo_values.specs.declared.values.Value.{Value}
 use Rattle.hippo_values.specs.declared.values.Value.TheVariants.{Null}
 use Rattle.hippo_values.specs.declared.truths.Truth.{Truth}
@@ -59,6 +59,20 @@ changed_layer change (Missing operand) = conditions.Missing (change operand)
 abbrev pub changed_operands : {O P : Type 0} → (O → P) → CondOf O → CondOf P
 changed_operands {O} {P} change condition =
     fold-CondOf O (CondOf P) (changed_layer change) condition
+
+-- the operands of a condition, given those of its parts
+abbrev pub operands_layer : {O : Type 0} → CondOf-F O (List O) → List O
+operands_layer (All parts) = flat_map (λ operands. operands) parts
+operands_layer (Any parts) = flat_map (λ operands. operands) parts
+operands_layer (Not part) = part
+operands_layer (Compare op left right) = left ∷ right ∷ []
+operands_layer (Between operand low high) = operand ∷ low ∷ high ∷ []
+operands_layer (Among operand list) = operand ∷ list
+operands_layer (Missing operand) = operand ∷ []
+
+-- the operands of a condition, from left to right
+abbrev pub operands : {O : Type 0} → CondOf O → List O
+operands {O} condition = fold-CondOf O (List O) operands_layer condition
 
 -- the parts of a condition's outermost All; a condition that is not an All is its own only part
 abbrev pub outer_parts : {O : Type 0} → CondOf O → List (CondOf O)

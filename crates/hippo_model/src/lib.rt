@@ -8,6 +8,7 @@ mod combo;
 mod entry;
 mod lent;
 mod name_fault;
+mod naming;
 mod operands;
 mod policy;
 mod query;
@@ -23,7 +24,8 @@ pub use combo::{ChoiceView, Combo, Plan};
 pub use entry::{Act, Entry, History, ItemKind};
 pub use lent::{Lent, LentSchemas};
 pub use name_fault::NameFault;
-pub use operands::{Change, changed_condition};
+pub use naming::{names_column, table_name};
+pub use operands::{Change, OperandTest, any_operand, changed_condition};
 pub use policy::{Authorization, Gate, Gates, RuleAt, RulesInForce, TableRules, Verdict};
 pub use query::{
     CondOf, Expr, Exprs, Form, Guard, Guards, Masked, Operand, Operands, Out, Outs, Query, Ref,

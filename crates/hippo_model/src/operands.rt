@@ -1,7 +1,8 @@
-//! Replaces the operands of conditions.
-ghost use Rattle.std.specs.Prelude.{◌≡◌, IfOk, map};
+//! The operands of conditions: replacing them, and finding one.
+ghost use Rattle.std.specs.Prelude.{◌≡◌, Bool, IfOk, map};
+ghost use Rattle.std.specs.List.{list_any};
 ghost use Rattle.hippo_model.specs.declared.query.CondOf.TheVariants.{Not, Compare, Between, Among, Missing};
-ghost use Rattle.hippo_model.specs.Conditions.{changed_operands};
+ghost use Rattle.hippo_model.specs.Conditions.{changed_operands, operands};
 
 use crate::query::CondOf;
 use hippo_values::{Boxed, CompareOp, Duplicate, Memory, Sequence};
@@ -148,4 +149,55 @@ impl<O: Duplicate + Drop> Duplicate for CondOf<O> {
     fn copy(&self, alloc: Global) -> Result<CondOf<O>, Memory> {
         changed_condition(alloc, self, &Copies)
     }
+}
+
+/// A test of the operands of a condition.
+pub trait OperandTest<O> {
+    /// Whether an operand passes.
+    ghost passes: { Self → O → Bool };
+
+    fn passes(&self, operand: &O) -> bool
+        ensures { result ≡ passes self.now operand.now };
+}
+
+fn any_of_list<O, T: OperandTest<O>>(list: &Sequence<O>, test: &T) -> bool
+    ensures { result ≡ list_any (T.passes test.now) list.now }
+{
+    for operand in list.as_slice() {
+        if test.passes(operand) {
+            return true;
+        }
+    }
+    false
+}
+
+/// Whether an operand of a condition passes a test.
+#[cycle(any_operand)]
+#[tactic(auto, using(crate::proofs::NamedColumns::any_operands))]
+pub fn any_operand<O, T: OperandTest<O>>(condition: &CondOf<O>, test: &T) -> bool
+    ensures { result ≡ list_any (T.passes test.now) (operands condition.now) }
+{
+    match condition {
+        CondOf::All(parts) => any_of_parts(parts, test),
+        CondOf::Any(parts) => any_of_parts(parts, test),
+        CondOf::Not(part) => any_operand(part.get(), test),
+        CondOf::Compare { left, right, .. } => test.passes(left) || test.passes(right),
+        CondOf::Between { value, low, high } => {
+            test.passes(value) || (test.passes(low) || test.passes(high))
+        }
+        CondOf::Among { value, list } => test.passes(value) || any_of_list(list, test),
+        CondOf::Missing { value } => test.passes(value),
+    }
+}
+
+#[cycle(any_operand)]
+fn any_of_parts<O, T: OperandTest<O>>(parts: &Sequence<CondOf<O>>, test: &T) -> bool
+    ensures { result ≡ list_any (λ part. list_any (T.passes test.now) (operands part)) parts.now }
+{
+    for part in parts.as_slice() {
+        if any_operand(part, test) {
+            return true;
+        }
+    }
+    false
 }

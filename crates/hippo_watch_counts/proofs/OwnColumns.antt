@@ -14,6 +14,10 @@ use Rattle.hippo_model.specs.Columns.{columns_in, condition_columns}
 use Rattle.hippo_model.proofs.NamedColumns.{condition_columns-All, condition_columns-Any, condition_columns-Not, condition_columns-Compare, condition_columns-Between, condition_columns-Among, condition_columns-Missing}
 use Rattle.hippo_watch_counts.specs.Rows.{are_of}
 
+and_grouped : (first second third : Bool) → (first && (second && third)) ≡ ((first && second) && third)
+and_grouped true second third = refl
+and_grouped false second third = refl
+
 module _ (table : Place) where
   own_append : (xs ys : List Ref) → are_of table (xs ++ ys) ≡ (are_of table xs && are_of table ys)
   own_append xs ys = list_all-append (λ column. column.table == table) xs ys
@@ -41,8 +45,9 @@ module _ (table : Place) where
   pub own-Between : (operand low high : Operand) → are_of table (condition_columns (Between operand low high)) ≡ (are_of table (columns_in operand) && are_of table (columns_in low) && are_of table (columns_in high))
   own-Between operand low high =
       ap (are_of table) (condition_columns-Between operand low high)
-      ∙ own_append (columns_in operand ++ columns_in low) (columns_in high)
-      ∙ ap (λ b. b && are_of table (columns_in high)) (own_append (columns_in operand) (columns_in low))
+      ∙ own_append (columns_in operand) (columns_in low ++ columns_in high)
+      ∙ ap (λ b. are_of table (columns_in operand) && b) (own_append (columns_in low) (columns_in high))
+      ∙ and_grouped (are_of table (columns_in operand)) (are_of table (columns_in low)) (are_of table (columns_in high))
 
   pub own-Among : (operand : Operand) (list : List Operand) → are_of table (condition_columns (Among operand list)) ≡ (are_of table (columns_in operand) && list_all (λ one. are_of table (columns_in one)) list)
   own-Among operand list =
